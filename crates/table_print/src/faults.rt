@@ -40,7 +40,8 @@ pub impl fmt::Display for Told<'_> as ToldDisplay {
         write!(f, "line {line}: ")?;
         match self.fault.slip {
             Slip::WordCount(count) => {
-                write!(f, "found {count} words, expected 6: ")?;
+                let words = if count == 1 { "word" } else { "words" };
+                write!(f, "found {count} {words}, expected 6: ")?;
                 write!(
                     f,
                     "H or L, period, deadline, low budget, high budget, offset"

@@ -88,6 +88,6 @@ fn line_of_a_megabyte(rt: LibcRuntime) -> Result<(), Fail> {
     }
     let got = said_of(heap, &bytes)?;
     let wanted =
-        "line 1: found 1 words, expected 6: H or L, period, deadline, low budget, high budget, offset";
+        "line 1: found 1 word, expected 6: H or L, period, deadline, low budget, high budget, offset";
     check_eq(got.as_str(), wanted)
 }
