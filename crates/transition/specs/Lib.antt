@@ -1,0 +1,4 @@
+pub mod Refusals
+pub mod Meanings
+pub mod Laws
+pub mod Runs
