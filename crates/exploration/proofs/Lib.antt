@@ -1,0 +1,13 @@
+pub mod Lists
+pub mod Nodes
+pub mod Chains
+pub mod Tracings
+pub mod Enters
+pub mod Progress
+pub mod Turns
+pub mod Safety
+pub mod Runs
+pub mod Invariant
+pub mod Ends
+pub mod Preservation
+pub mod Theorems

@@ -1,0 +1,9 @@
+pub mod Outcomes
+pub mod TraceRefusals
+pub mod Lists
+pub mod Stores
+pub mod Exploring
+pub mod Traces
+pub mod Claims
+pub mod Unrolling
+pub mod Theorems
