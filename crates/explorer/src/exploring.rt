@@ -30,6 +30,7 @@ pub fn explore<S: System>(
     ensures within { λ r. ⌜ (r .1 ≤ length (now (nodes .entry))) × (r .2 ≤ length (now (visits .entry))) ⌝ }
     ensures untouched { λ r. ⌜ drop (r .2) (now (visits .exit)) ≡ drop (r .2) (now (visits .entry)) ⌝ }
     ensures too_large { λ r. ⌜ (Too-large (length (now (nodes .entry))) (length (now (visits .entry))) → (r .0 ≡ Outcome.TooLarge) × (r .1 ≡ 0) × (r .2 ≡ 0) × (now (nodes .exit) ≡ now (nodes .entry)) × (now (visits .exit) ≡ now (visits .entry))) ⌝ }
+    ensures too_large_only { λ r. ⌜ (r .0 ≡ Outcome.TooLarge → Too-large (length (now (nodes .entry))) (length (now (visits .entry)))) ⌝ }
     ensures never_late { λ r. ⌜ (r .0 ≡ Outcome.Schedulable → Never-late (S·System .meaning (now (system .entry)))) ⌝ }
     ensures closed { λ r. ⌜ (r .0 ≡ Outcome.Schedulable → Closed (S·System .meaning (now (system .entry))) (states (take (r .1) (now (nodes .exit))))) ⌝ }
     ensures ever_late { λ r. ⌜ (r .0 ≡ Outcome.Unschedulable → Ever-late (S·System .meaning (now (system .entry)))) ⌝ }

@@ -13,7 +13,7 @@ pub record Meaning (X : Type 0) : Type 0 where
   pub first : X
   -- what an event gives in a state: the next state, or why it is refused
   pub gives : ℕ → X → Result X Refusal
-  -- whether a late state can no longer be kept from coming by those who make the events
+  -- whether the forced events, one after another, lead to a late state
   pub doomed : X → Bool
   -- whether what must never happen has happened
   pub late : X → Bool
