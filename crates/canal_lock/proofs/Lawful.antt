@@ -85,7 +85,7 @@ parts l x y s =
       pause = leb-true _ _ (right .1);
     }
 
-together : (l : Lock) (x y : Chamber) → (fits l x ≡ true) × (fits l y ≡ true) → x .turn ≡ y .turn → x .boat ≡ y .boat → x .wait ≡ y .wait → x .pause ≤ y .pause → simulates l x y ≡ true
+pub together : (l : Lock) (x y : Chamber) → (fits l x ≡ true) × (fits l y ≡ true) → x .turn ≡ y .turn → x .boat ≡ y .boat → x .wait ≡ y .wait → x .pause ≤ y .pause → simulates l x y ≡ true
 together l x y f t b w p =
     and-from _ _ (and-from _ _ (f .0) (f .1)) (and-from _ _ (and-from _ _ (eq-eqb _ _ t) (boat-same _ _ b)) (and-from _ _ (eq-eqb _ _ w) (le-leb _ _ p)))
 

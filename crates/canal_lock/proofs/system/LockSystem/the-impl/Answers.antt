@@ -1,28 +1,5 @@
-use native.Mathlib.Omega.{arith}
-use Rattle.canal_lock.proofs.Lawful as lock
+use Rattle.canal_lock.proofs.Laws.{lawful}
 use Rattle.canal_lock.proofs.system.LockSystem.the-impl.Needs as need
 
 pub lawful-law : need.lawful-law
-lawful-law l = record {
-  few-events = omega arith;
-  first-fits = lock.first-fits l;
-  result-fits = lock.result-fits l;
-  accepted-within = lock.accepted-within l;
-  unfit-refuses = lock.unfit-refuses l;
-  late-refuses = lock.late-refuses l;
-  lacking-refused = lock.lacking-refused l;
-  refusal-numbered = lock.refusal-numbered l;
-  simulates-fits = lock.simulates-fits l;
-  simulates-itself = lock.simulates-itself l;
-  simulates-through = lock.simulates-through l;
-  simulates-events = lock.simulates-events l;
-  simulates-doom = lock.simulates-doom l;
-  first-not-doomed = lock.first-not-doomed l;
-  doomed-fits = lock.doomed-fits l;
-  late-doomed = lock.late-doomed l;
-  forced-unfit = lock.forced-unfit l;
-  forced-late = lock.forced-late l;
-  forced-none = lock.forced-none l;
-  forced-nears = lock.forced-nears l;
-  miss-near = lock.miss-near l;
-}
+lawful-law l = lawful l

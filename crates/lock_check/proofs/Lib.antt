@@ -1,0 +1,3 @@
+pub mod Overdue
+pub mod Runs
+pub mod Verdicts
