@@ -1,0 +1,4 @@
+pub mod Sames
+pub mod Loops
+pub mod Numbers
+pub mod Serves
