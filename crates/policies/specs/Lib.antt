@@ -1,0 +1,5 @@
+pub mod Picks
+pub mod Leasts
+pub mod Figures
+pub mod Layers
+pub mod Choices
