@@ -1,0 +1,15 @@
+pub mod Jobwise
+pub mod Boths
+pub mod Signs
+pub mod Perjob
+pub mod Nears
+pub mod Founds
+pub mod Follows
+pub mod Steps
+pub mod Gives
+pub mod Keeps
+pub mod Targets
+pub mod Forces
+pub mod Equals
+pub mod Refuses
+pub mod Lawfuls
