@@ -40,7 +40,7 @@ fn tell_faults(
 }
 
 // The table of a source, or messages on what is wrong with it.
-pub fn sealed_table(rt: &LibcRuntime, source: Source<'_>) -> Result<TaskTable, Trouble> {
+pub(crate) fn sealed_table(rt: &LibcRuntime, source: Source<'_>) -> Result<TaskTable, Trouble> {
     let bytes = read_source(rt, source)?;
     let name = name_of(source);
     match read_table(rt.alloc(), &bytes) {
@@ -57,7 +57,7 @@ pub fn sealed_table(rt: &LibcRuntime, source: Source<'_>) -> Result<TaskTable, T
     }
 }
 
-pub fn print_table(rt: &LibcRuntime, source: Source<'_>) -> Result<(), Trouble> {
+pub(crate) fn print_table(rt: &LibcRuntime, source: Source<'_>) -> Result<(), Trouble> {
     let table = sealed_table(rt, source)?;
     print!(rt, "{}", Rows(table.tasks()))?;
     let count = table.len();

@@ -23,7 +23,7 @@ fn read_input(rt: &LibcRuntime) -> io::Result<Vec<u8>> {
 }
 
 // The name by which a source is told.
-pub fn name_of<'a>(source: Source<'a>) -> &'a str {
+pub(crate) fn name_of<'a>(source: Source<'a>) -> &'a str {
     match source {
         Source::Input => "standard input",
         Source::File(name) => name,
@@ -31,7 +31,7 @@ pub fn name_of<'a>(source: Source<'a>) -> &'a str {
 }
 
 // All bytes of the source, or a message that it cannot be read.
-pub fn read_source(rt: &LibcRuntime, source: Source<'_>) -> Result<Vec<u8>, Trouble> {
+pub(crate) fn read_source(rt: &LibcRuntime, source: Source<'_>) -> Result<Vec<u8>, Trouble> {
     let read = match source {
         Source::Input => read_input(rt),
         Source::File(name) => read_file(rt, name),

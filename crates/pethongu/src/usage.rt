@@ -1,5 +1,5 @@
 // What the program can be asked for.
-pub const USAGE: &str = "\
+pub(crate) const USAGE: &str = "\
 pethongu shows what a table of tasks asks of one processor.
 
   pethongu table [FILE]   print the table in FILE and its load in both modes
