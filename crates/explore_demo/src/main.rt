@@ -41,7 +41,8 @@ fn show_unsafe(rt: &impl Print, lock: &Lock) -> io::Result<()> {
     let mut nodes = [NODE; 64];
     let mut visits = [VISIT; 128];
     let finding = tell_check(rt, lock, &mut nodes, &mut visits)?;
-    tell_failing_run(rt, lock, &visits, finding.visits)
+    let _ = tell_failing_run(rt, lock, &visits, finding.visits)?;
+    Ok(())
 }
 
 // The ends that decide nothing, as the memory is too small or too large.

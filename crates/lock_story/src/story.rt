@@ -3,6 +3,8 @@ ghost use mathlib.Core.Path.{_≡_};
 ghost use lib.ListN.{length, take};
 ghost use Rattle.std.specs.Vec.{made};
 ghost use Rattle.exploration.specs.Exploring.{explored};
+ghost use Rattle.exploration.specs.Traces.{traced};
+ghost use Rattle.explorer.specs.Told.{counted};
 ghost use Rattle.canal_lock.specs.Locks.{meaning};
 ghost use Rattle.lock_check.specs.Findings.{checked};
 use crate::words::Answer;
@@ -20,6 +22,7 @@ use canal_lock::Lock;
 use canal_lock::LockSystem;
 use explorer::Node;
 use explorer::Outcome;
+use explorer::TraceRefusal;
 use explorer::Visit;
 use explorer::explore;
 use explorer::trace;
@@ -101,27 +104,32 @@ fn tell_outcome(rt: &impl Print, outcome: Outcome) -> io::Result<()> {
     }
 }
 
-// Traces the visit, replays its events on a new run, and makes the forced events that follow.
+// Traces the visit, replays its events on a new run, makes the forced events that follow, and answers what
+// tracing answered.
 pub fn tell_failing_run(
     rt: &impl Print,
     lock: &Lock,
     visits: &[Visit],
     number: usize,
-) -> io::Result<()> {
+) -> io::Result<Result<usize, TraceRefusal>>
+    ensures { λ r. ⌜ made r (λ told. told ≡ counted (traced (now (visits .entry)) number 256)) ⌝ }
+{
     let mut events = [0; 256];
-    match trace(visits, number, &mut events) {
-        Ok(count) => {
-            let mut run = Run::new(*lock);
-            println!(rt, "The events that lead to visit {number}:")?;
-            tell_events(rt, &mut run, &events[0..count])?;
-            println!(rt, "The forced events after them:")?;
-            tell_forced(rt, &mut run)
-        }
-        Err(refusal) => {
-            let number = refusal.number();
-            println!(rt, "The trace is refusal {number}.")
-        }
+    let told = trace(visits, number, &mut events);
+    match told {
+        Ok(count) => tell_replay(rt, lock, number, &events[0..count])?,
+        Err(refusal) => println!(rt, "The trace is refusal {}.", refusal.number())?,
     }
+    Ok(told)
+}
+
+// Makes the events that lead to the visit, and the forced ones after them, on a new run.
+fn tell_replay(rt: &impl Print, lock: &Lock, number: usize, events: &[u8]) -> io::Result<()> {
+    let mut run = Run::new(*lock);
+    println!(rt, "The events that lead to visit {number}:")?;
+    tell_events(rt, &mut run, events)?;
+    println!(rt, "The forced events after them:")?;
+    tell_forced(rt, &mut run)
 }
 
 // Makes the events one after another.
