@@ -1,5 +1,5 @@
 // What command lines ask for.
-use commands::words::read_words;
+use command_words::words::read_words;
 use std::alloc::Global;
 use std::test::Fail;
 

@@ -1,6 +1,6 @@
 // Which policies are chosen for tables with several tasks.
-use commands::command::Command;
-use commands::words::read_words;
+use command_words::command::Command;
+use command_words::words::read_words;
 use policies::{Choice, Order};
 use policy_choice::choose_policy;
 use std::alloc::Global;

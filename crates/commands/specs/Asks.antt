@@ -1,65 +1,69 @@
 -- What the words of a command line ask for.
-use Rattle.std.specs.Prelude.{ℕ, cond, List, [], ◌∷◌, Some, None, Ok, Err, vec_items, Option, Result}
-use Rattle.std.specs.Option.{unwrap_or}
+use Rattle.std.specs.Prelude.{ℕ, Bool, true, false, cond, ◌&&◌, List, [], ◌∷◌, Ok, Err, codes, Result, ◌==◌}
+use Rattle.commands.specs.declared.command.Source.{Source}
+use Rattle.commands.specs.declared.command.Source.TheVariants.{Input, File}
 use Rattle.commands.specs.declared.command.Command.{Command}
-use Rattle.commands.specs.declared.command.Command.TheVariants.{Help, Table, Run, Check}
-use Rattle.command_options.specs.declared.options.Key.{Key}
-use Rattle.command_reading.specs.declared.verb.Verb.{Verb}
-use Rattle.command_reading.specs.declared.verb.Verb.TheVariants as verb
-use Rattle.command_options.specs.Choices.{Chosen, loose_ranks, chosen_in}
-use Rattle.command_reading.specs.Misuses.{Wrong, unknown_command, one_too_many, no_value, no_events, ranks_need_fixed, then}
-use Rattle.command_options.specs.Named.{Word, first_named}
-use Rattle.command_reading.specs.Verbs.{verb_word, verbs}
-use Rattle.command_reading.specs.Readings.{From, input, Bounds, Read, nothing_read, with_words, from_source}
+use Rattle.commands.specs.declared.command.Command.TheVariants.{Help, Table}
+use Rattle.commands.specs.declared.command.Misuse.{Misuse}
+use Rattle.commands.specs.declared.command.Misuse.TheVariants.{UnknownCommand, UnknownOption, OneTooMany}
 
+abbrev pub Word : Type 0
+Word = List ℕ
+
+-- where a table is read from: standard input, or the file of that name
+pub data From : Type 0 where
+  input : From
+  file : Word → From
+
+-- what is asked for, or the first word that cannot be understood
 pub data Asked : Type 0 where
   help : Asked
   table : From → Asked
-  run : From → Chosen → List ℕ → Asked
-  check : From → Chosen → Bounds → Asked
+  unknown_command : Word → Asked
+  unknown_option : Word → Asked
+  one_too_many : Word → Asked
+
+abbrev pub same : Word → Word → Bool
+same [] [] = true
+same [] (b ∷ w) = false
+same (a ∷ v) [] = false
+same (a ∷ v) (b ∷ w) = a == b && same v w
+
+-- an option begins with '-' and is not that sign alone
+abbrev pub is_option : Word → Bool
+is_option [] = false
+is_option (b ∷ []) = false
+is_option (b ∷ c ∷ bs) = b == 45
 
 -- where nothing may follow
-abbrev pub alone : Asked → List Word → Result Asked Wrong
-alone a [] = Ok a
-alone a (w ∷ ws) = Err (one_too_many w)
+abbrev pub alone : Asked → List Word → Asked
+alone a [] = a
+alone a (w ∷ ws) = one_too_many w
 
--- no option waits for its value when the words end
-abbrev pub settled : Read → Option Key → Result Read Wrong
-settled r None = Ok r
-settled r (Some k) = Err (no_value k)
+abbrev pub source : Word → From
+source w = cond (same w (codes "-")) input (file w)
 
-abbrev pub all_read : Verb → List Word → Result Read Wrong
-all_read v ws = then (with_words v nothing_read ws) (λ r. settled r r.waiting)
-
-abbrev pub table_asked : Read → Result Asked Wrong
-table_asked r = Ok (table (unwrap_or r.from input))
-
--- only the fixed order has ranks
-abbrev pub run_with : Read → Option (List ℕ) → Result Asked Wrong
-run_with r None = Err no_events
-run_with r (Some es) = cond (loose_ranks r.chosen) (Err ranks_need_fixed) (Ok (run (unwrap_or r.from input) r.chosen es))
-
-abbrev pub run_asked : Read → Result Asked Wrong
-run_asked r = run_with r r.events
-
-abbrev pub check_asked : Read → Result Asked Wrong
-check_asked r = cond (loose_ranks r.chosen) (Err ranks_need_fixed) (Ok (check (unwrap_or r.from input) r.chosen r.bounds))
-
-abbrev pub asked_of : Word → List Word → Option Verb → Result Asked Wrong
-asked_of w ws None = Err (unknown_command w)
-asked_of w ws (Some verb.Help) = alone help ws
-asked_of w ws (Some verb.Table) = then (all_read verb.Table ws) table_asked
-asked_of w ws (Some verb.Run) = then (all_read verb.Run ws) run_asked
-asked_of w ws (Some verb.Check) = then (all_read verb.Check ws) check_asked
+-- what stands behind the word 'table'
+abbrev pub table_of : List Word → Asked
+table_of [] = table input
+table_of (w ∷ ws) = cond (is_option w) (unknown_option w) (alone (table (source w)) ws)
 
 -- what the words ask for; without any, help
-abbrev pub asked : List Word → Result Asked Wrong
-asked [] = Ok help
-asked (w ∷ ws) = asked_of w ws (first_named verb_word verbs w)
+abbrev pub asked : List Word → Asked
+asked [] = help
+asked (w ∷ ws) = cond (same w (codes "help")) (alone help ws) (cond (same w (codes "table")) (table_of ws) (unknown_command w))
 
--- the code's commands in the same terms
+abbrev pub from_source : Source → From
+from_source Input = input
+from_source (File w) = file w.now
+
+-- the code's answers in the same terms
 abbrev pub command_heard : Command → Asked
 command_heard Help = help
 command_heard (Table s) = table (from_source s)
-command_heard (Run s t es) = run (from_source s) (chosen_in t) (vec_items es)
-command_heard (Check s t n v q p) = check (from_source s) (chosen_in t) (record { nodes = n; visits = v; require_schedulable = q; quiet = p })
+
+abbrev pub heard : Result Command Misuse → Asked
+heard (Ok c) = command_heard c
+heard (Err (UnknownCommand w)) = unknown_command w.now
+heard (Err (UnknownOption w)) = unknown_option w.now
+heard (Err (OneTooMany w)) = one_too_many w.now

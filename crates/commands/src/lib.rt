@@ -1,3 +1,2 @@
 // What the words of a command line ask for.
 pub mod command;
-pub mod words;

@@ -1,18 +1,12 @@
-// A table of two tasks is drafted and sealed, its tasks are read, and a run of it is begun: the smallest right
-// use of a table.
+// A table of two tasks is drafted and sealed, and its tasks are read: the smallest right use of a table.
 ghost use Rattle.std.specs.Prelude.{◌≡◌, length, MatchResult};
 ghost use Rattle.task_table.specs.Tables.{tasks_of};
 
-use policies::EarliestDeadline;
-use policies::least::Least;
-use policies::orders::Deadline;
 use std::io;
-use task_systems::{Sporadic, SporadicReleases, TaskSystem};
 use task_table::draft::Draft;
 use task_table::refusal::DraftRefusal;
 use task_table::table::TaskTable;
 use task_table::task::{Criticality, Task};
-use transition::Run;
 
 const RUDDER: Task = Task {
     criticality: Criticality::High,
@@ -32,8 +26,6 @@ const PLOTTER: Task = Task {
     offset: 0,
 };
 
-const FIRST: EarliestDeadline = Least { by: Deadline };
-
 // Both tasks are right, so neither is refused.
 fn pair() -> Result<TaskTable, DraftRefusal>
     ensures { MatchResult result (λ t. length (tasks_of t) ≡ 2) (λ _. ⊥) }
@@ -45,26 +37,6 @@ fn pair() -> Result<TaskTable, DraftRefusal>
     Ok(table)
 }
 
-// The same two tasks as a system.
-fn pair_system() -> Result<Sporadic<EarliestDeadline>, DraftRefusal>
-    ensures { MatchResult result (λ s. length (tasks_of s.table) ≡ 2) (λ _. ⊥) }
-{
-    let mut draft = Draft::new();
-    draft.add(RUDDER)?;
-    draft.add(PLOTTER)?;
-    Ok(TaskSystem::new(SporadicReleases, draft.seal(), FIRST))
-}
-
-fn tell_first_tick(rt: &HostRuntime) -> io::Result<()> {
-    match pair_system() {
-        Ok(system) => {
-            let mut run = Run::new(system);
-            println!(rt; "the first tick is answered {}", run.call(9))
-        }
-        Err(refusal) => println!(rt; "{refusal}"),
-    }
-}
-
 fn main(rt: HostRuntime) -> io::Result<()> {
     match pair() {
         Ok(sealed) => {
@@ -74,7 +46,7 @@ fn main(rt: HostRuntime) -> io::Result<()> {
                 let period = task.period;
                 println!(rt; "{criticality:?} every {period} ticks")?;
             }
-            tell_first_tick(&rt)
+            Ok(())
         }
         Err(refusal) => println!(rt; "{refusal}"),
     }

@@ -1,4 +1,6 @@
-// Tests of tables and table files, apart from what they test, so that this is proved once.
+// Tests of tables, table files and command lines, apart from what they test, so that this is proved once.
+#[cfg(test)]
+mod command_lines;
 #[cfg(test)]
 mod files;
 #[cfg(test)]

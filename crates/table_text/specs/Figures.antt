@@ -40,9 +40,9 @@ numeral bs = fold with_digit 0 bs
 abbrev pub value_within : ℕ → List ℕ → Option ℕ
 value_within most bs = cond (filled bs && (all_digits bs && nat_le (numeral bs) most)) (Some (numeral bs)) None
 
--- a number from 0 to 255
+-- the number that a word writes in decimal digits, where it is at most 255
 abbrev pub byte_value : List ℕ → Option ℕ
-byte_value bs = value_within 255 bs
+byte_value bs = cond (filled bs && (all_digits bs && nat_le (numeral bs) 255)) (Some (numeral bs)) None
 
 -- the criticality that a word names: H or L
 abbrev pub level : List ℕ → Option Criticality

@@ -39,3 +39,8 @@ words bs = filter filled (pieces (separates Blank) bs)
 -- a line without its comment
 abbrev pub bare : List ℕ → List ℕ
 bare bs = take (prefix_len (λ b. not (separates Hash b)) bs) bs
+
+-- the lines of what stands behind a newline, if there was one
+abbrev pub lines_behind : Option (List ℕ) → List (List ℕ)
+lines_behind None = []
+lines_behind (Some bs) = lines bs

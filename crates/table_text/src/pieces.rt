@@ -2,7 +2,7 @@
 ghost use Rattle.std.specs.Prelude.{◌≡◌, ◌<◌, ◌≤◌, not, [], ◌∷◌, length, IfSome, MatchOption, slice_index_or};
 ghost use Rattle.std.specs.Option.{option_map};
 ghost use Rattle.std.specs.List.{prefix_len};
-ghost use Rattle.table_text.specs.Pieces.{separates, bare, pieces, pieces_behind, lines, words};
+ghost use Rattle.table_text.specs.Pieces.{separates, bare, pieces, pieces_behind, lines, lines_behind, words};
 
 #[derive(Clone, Copy)]
 pub enum Separator {
@@ -53,6 +53,14 @@ impl Separator {
         let (_, more) = end.split_at(1);
         (piece, Some(more))
     }
+}
+
+// The first line, and what stands behind the newline that ends it, if one does.
+pub(crate) fn next_line(bytes: &[u8]) -> (&[u8], Option<&[u8]>)
+    ensures cut { lines bytes.now ≡ result.0.now ∷ lines_behind (option_map (λ x. x.now) result.1) }
+    ensures shorter { IfSome result.1 (λ more. length more.now < length bytes.now) }
+{
+    Separator::Newline.next_piece(bytes)
 }
 
 // The line without its comment.
@@ -113,11 +121,11 @@ pub(crate) fn line_at(bytes: &[u8], place: usize) -> &[u8]
 {
     let mut rest = bytes;
     for _ in 0..place {
-        match Separator::Newline.next_piece(rest) {
+        match next_line(rest) {
             (_, Some(more)) => rest = more,
             (_, None) => return &[],
         }
     }
-    let (line, _) = Separator::Newline.next_piece(rest);
+    let (line, _) = next_line(rest);
     line
 }

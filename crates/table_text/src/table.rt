@@ -5,7 +5,7 @@ ghost use Rattle.table_text.specs.Pieces.{lines};
 
 use crate::fault::{Fault, Slip};
 use crate::line::read_task;
-use crate::pieces::Separator;
+use crate::pieces::next_line;
 use crate::reading::{ReadError, Reading};
 use std::alloc::{AllocFailed, Global};
 use task_table::draft::Draft;
@@ -38,7 +38,7 @@ impl Reading {
         let mut number = 1;
         let mut rest = bytes;
         loop {
-            match Separator::Newline.next_piece(rest) {
+            match next_line(rest) {
                 (line, Some(more)) => {
                     self.take_line(number, line)?;
                     number += 1;

@@ -10,7 +10,7 @@ use jobs::Kind;
 use policies::Policy;
 use run_steps::{Step, record_steps};
 use std::alloc::{AllocError, Global};
-use task_systems::{PeriodicReleases, SporadicReleases, TaskSystem};
+use task_systems::{Periodic, Sporadic};
 use task_table::table::TaskTable;
 use transition::Run;
 
@@ -27,11 +27,11 @@ pub fn record_run<P: Policy + Copy>(
 {
     match kind {
         Kind::Sporadic => {
-            let mut run = Run::new(TaskSystem::new(SporadicReleases, *table, *policy));
+            let mut run = Run::new(Sporadic::new(*table, *policy));
             record_steps(heap, &mut run, events)
         }
         Kind::Periodic => {
-            let mut run = Run::new(TaskSystem::new(PeriodicReleases, *table, *policy));
+            let mut run = Run::new(Periodic::new(*table, *policy));
             record_steps(heap, &mut run, events)
         }
     }

@@ -9,7 +9,7 @@ ghost use Rattle.task_systems.specs.Tables.{table_of};
 use crate::events::{EVENTS as EVENT_COUNT, next as next_state};
 use crate::forces::forced_event as force;
 use crate::lateness::{is_doomed_in, is_late_in};
-use crate::releases::{PeriodicReleases, Releases, SporadicReleases};
+use crate::releases::Releases;
 use crate::simulation::does_simulate;
 use job_state::State;
 use policies::Policy;
@@ -23,14 +23,8 @@ pub struct TaskSystem<R, P> {
     policy: P,
 }
 
-// Tasks whose jobs come at any time, a period or more after one another.
-pub type Sporadic<P> = TaskSystem<SporadicReleases, P>;
-
-// Tasks whose jobs come as soon as their wait is over, the first after the offset.
-pub type Periodic<P> = TaskSystem<PeriodicReleases, P>;
-
 impl<R, P> TaskSystem<R, P> {
-    pub fn new(releases: R, table: TaskTable, policy: P) -> Self
+    pub fn of(releases: R, table: TaskTable, policy: P) -> Self
         ensures releases { result.releases ≡ releases }
         ensures table { result.table ≡ table }
         ensures policy { result.policy ≡ policy }

@@ -13,7 +13,7 @@ use job_state::State;
 use jobs::Kind;
 use policies::Policy;
 use std::alloc::{AllocError, Global};
-use task_systems::{PeriodicReleases, SporadicReleases, TaskSystem};
+use task_systems::{Periodic, Sporadic};
 use task_table::table::TaskTable;
 use transition::System;
 use verdict::{Failure, Judgement, Verdict, judge};
@@ -33,11 +33,11 @@ pub fn judge_tasks<P: Policy + Copy>(
 {
     match kind {
         Kind::Sporadic => {
-            let system = TaskSystem::new(SporadicReleases, *table, policy);
+            let system = Sporadic::new(*table, policy);
             judge_system(heap, &system, nodes, visits)
         }
         Kind::Periodic => {
-            let system = TaskSystem::new(PeriodicReleases, *table, policy);
+            let system = Periodic::new(*table, policy);
             judge_system(heap, &system, nodes, visits)
         }
     }

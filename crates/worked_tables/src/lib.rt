@@ -12,7 +12,7 @@ use jobs::Kind;
 use policies::EarliestDeadline;
 use policies::least::Least;
 use policies::orders::Deadline;
-use task_systems::{PeriodicReleases, SporadicReleases, TaskSystem};
+use task_systems::{Periodic, Sporadic};
 use task_table::table::TaskTable;
 use transition::Run;
 
@@ -29,12 +29,12 @@ pub fn run_earliest(kind: Kind, table: &TaskTable, events: &[u8]) -> State
 {
     match kind {
         Kind::Sporadic => {
-            let mut run = Run::new(TaskSystem::new(SporadicReleases, *table, EARLIEST));
+            let mut run = Run::new(Sporadic::new(*table, EARLIEST));
             run.call_all(events);
             *run.state()
         }
         Kind::Periodic => {
-            let mut run = Run::new(TaskSystem::new(PeriodicReleases, *table, EARLIEST));
+            let mut run = Run::new(Periodic::new(*table, EARLIEST));
             run.call_all(events);
             *run.state()
         }

@@ -1,8 +1,8 @@
 use Rattle.std.proofs.Common.{◌≡◌, ◌<◌, length, ap, arith}
 use Rattle.std.proofs.lemmas.Bool.Decides.{nat_tests}
-use Rattle.commands.specs.Asks.{alone, help}
-use Rattle.commands.proofs.Fronts.{map_none, map_first}
-use Rattle.commands.proofs.words.help_command.Goals as goal
+use Rattle.command_words.specs.Asks.{alone, help}
+use Rattle.command_words.proofs.Fronts.{map_none, map_first}
+use Rattle.command_words.proofs.words.help_command.Goals as goal
 
 pub returns-then-is-empty : goal.returns-then-is-empty
 returns-then-is-empty c =

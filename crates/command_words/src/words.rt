@@ -3,7 +3,7 @@ ghost use Rattle.std.specs.Prelude.{◌≡◌, List, map};
 ghost use Rattle.std.specs.Option.{unwrap_or, option_map};
 ghost use Rattle.command_reading.specs.Misuses.{Says, then};
 ghost use Rattle.command_reading.specs.Readings.{read_so_far, from_source, input};
-ghost use Rattle.commands.specs.Asks.{asked, alone, all_read, check_asked, command_heard, help, run_asked, table_asked};
+ghost use Rattle.command_words.specs.Asks.{asked, alone, all_read, check_asked, command_heard, help, run_asked, table_asked};
 ghost use Rattle.command_reading.specs.declared.verb.Verb.TheVariants.{Table, Run, Check};
 
 use crate::command::Command;

@@ -1,8 +1,8 @@
 use Rattle.std.proofs.Common.{◌≡◌, length, ap, arith}
 use Rattle.std.proofs.lemmas.Bool.Decides.{nat_tests}
-use Rattle.commands.specs.Asks.{asked}
-use Rattle.commands.proofs.Fronts.{map_none}
-use Rattle.commands.proofs.words.read_words.Goals as goal
+use Rattle.command_words.specs.Asks.{asked}
+use Rattle.command_words.proofs.Fronts.{map_none}
+use Rattle.command_words.proofs.words.read_words.Goals as goal
 
 pub returns-then-is-empty : goal.returns-then-is-empty
 returns-then-is-empty c =

@@ -1,0 +1,3 @@
+// What the words of a command line ask for.
+pub mod command;
+pub mod words;

@@ -1,0 +1,7 @@
+use Rattle.std.proofs.Common.{cond, codes, sym, ap}
+use Rattle.commands.specs.Asks.{input, file}
+use Rattle.commands.proofs.Words.{differs}
+use Rattle.commands.proofs.command.source_named.Goals as goal
+
+pub returns-in-default : goal.returns-in-default
+returns-in-default c = sym (ap (λ b. cond b input (file c.args.word.now)) (differs c.args.word.now (codes "-") c.in-default.not-text))
