@@ -1,4 +1,6 @@
 // A lock of a canal as a transition system: whether every boat gets through before it has waited too long.
+#![tactic(auto)]
+
 pub mod lock;
 pub mod system;
 

@@ -1,4 +1,6 @@
 // Tests of command lines, apart from what they test, so that this is proved once.
+#![tactic(auto)]
+
 #[cfg(test)]
 mod lines;
 #[cfg(test)]

@@ -1,2 +1,4 @@
 // What the words of a command line ask for.
+#![tactic(auto)]
+
 pub mod command;

@@ -1,4 +1,6 @@
 // Exploring a transition system: what it keeps, how it ends, and what its end tells.
+#![tactic(auto)]
+
 pub mod claims;
 pub mod node;
 pub mod outcome;

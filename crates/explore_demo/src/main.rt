@@ -1,4 +1,6 @@
 // Explores two canal locks, and then one of them with too little and with too much memory.
+#![tactic(auto)]
+
 use canal_lock::{Chamber, Lock};
 use explorer::{Node, Visit};
 use lock_story::{tell_check, tell_end, tell_failing_run};

@@ -1,4 +1,6 @@
 // The explorer: decides of any transition system whether a run of it is ever late, within lent memory.
+#![tactic(auto)]
+
 mod antichain;
 mod entering;
 mod exploring;

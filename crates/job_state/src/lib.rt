@@ -1,4 +1,6 @@
 // States of all jobs, and what a release and a tick do to them.
+#![tactic(auto)]
+
 pub mod job_tests;
 mod rules;
 pub mod state;

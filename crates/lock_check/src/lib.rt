@@ -1,4 +1,6 @@
 // Checks a lock: explores it, and tells in the lock's words what was found.
+#![tactic(auto)]
+
 pub mod check;
 pub mod finding;
 

@@ -1,4 +1,6 @@
 // Tells in plain words how a lock is checked and what was found.
+#![tactic(auto)]
+
 pub mod story;
 pub mod words;
 

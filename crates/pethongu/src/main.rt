@@ -1,4 +1,6 @@
 // The program: reads the words of its command line and does what they ask.
+#![tactic(auto)]
+
 mod command_check;
 mod command_run;
 mod command_table;

@@ -1,4 +1,6 @@
 // Policies: which ready task runs.
+#![tactic(auto)]
+
 pub mod best;
 pub mod choice;
 pub mod figure;

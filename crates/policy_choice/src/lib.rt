@@ -1,4 +1,6 @@
 // The policy that a command line asks for.
+#![tactic(auto)]
+
 pub mod choose;
 mod eight;
 pub mod wrong_count;

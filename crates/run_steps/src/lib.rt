@@ -1,4 +1,6 @@
 // What a run answers to each event of a list, and the state after it.
+#![tactic(auto)]
+
 pub mod recording;
 pub mod step;
 

@@ -1,4 +1,6 @@
 // Who ran and who waited, tick by tick.
+#![tactic(auto)]
+
 mod timeline;
 
 pub use timeline::Timeline;

@@ -1,4 +1,6 @@
 // A table of two tasks is drafted and sealed, and its tasks are read: the smallest right use of a table.
+#![tactic(auto)]
+
 ghost use Rattle.std.specs.Prelude.{◌≡◌, length, MatchResult};
 ghost use Rattle.task_table.specs.Tables.{tasks_of};
 

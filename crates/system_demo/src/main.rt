@@ -1,5 +1,7 @@
 // A table of two tasks is drafted and sealed, its tasks are read, and a run of it is begun: the smallest right
 // use of a table.
+#![tactic(auto)]
+
 ghost use Rattle.std.specs.Prelude.{◌≡◌, length, MatchResult};
 ghost use Rattle.task_table.specs.Tables.{tasks_of};
 

@@ -1,4 +1,6 @@
 // Tests of tables, table files and command lines, apart from what they test, so that this is proved once.
+#![tactic(auto)]
+
 #[cfg(test)]
 mod command_lines;
 #[cfg(test)]

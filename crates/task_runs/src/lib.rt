@@ -1,4 +1,6 @@
 // Runs of tables of tasks: what comes of each event, and which task runs at each tick.
+#![tactic(auto)]
+
 pub mod recording;
 pub mod ticking;
 

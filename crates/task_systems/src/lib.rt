@@ -1,4 +1,6 @@
 // Tables of tasks under a policy, as transition systems: sporadic and periodic.
+#![tactic(auto)]
+
 mod answers;
 mod events;
 mod forces;

@@ -1,4 +1,6 @@
 // Tasks of two criticalities, drafts of tables, and tables that hold only right tasks.
+#![tactic(auto)]
+
 pub mod draft;
 pub mod mode;
 pub mod refusal;

@@ -1,4 +1,6 @@
 // The verdict on a table of tasks, in either kind and under any policy.
+#![tactic(auto)]
+
 pub mod finding;
 mod judging;
 mod lateness;

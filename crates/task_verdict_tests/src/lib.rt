@@ -1,4 +1,6 @@
 // The tests of the verdict on tasks, apart from it, so that it is proved once.
+#![tactic(auto)]
+
 #[cfg(test)]
 mod cases;
 #[cfg(test)]

@@ -1,4 +1,6 @@
 // Transition systems: states, numbered events that lead on or are refused, and runs of them.
+#![tactic(auto)]
+
 pub mod refusal;
 pub mod run;
 pub mod system;

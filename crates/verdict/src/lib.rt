@@ -1,4 +1,6 @@
 // The verdict on a system: it is explored, and where it is ever late, a run that is late is handed back.
+#![tactic(auto)]
+
 mod failing;
 pub mod judgement;
 mod judging;

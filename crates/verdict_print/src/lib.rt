@@ -1,4 +1,6 @@
 // Verdicts in words, for people and for scripts.
+#![tactic(auto)]
+
 mod grounds;
 mod lines;
 

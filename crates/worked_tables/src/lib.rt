@@ -1,4 +1,6 @@
 // Worked cases on small tables, as one proved statement.
+#![tactic(auto)]
+
 ghost use Rattle.std.specs.Prelude.{◌≡◌};
 ghost use Rattle.task_table.specs.Tables.{tasks_of};
 ghost use Rattle.job_state.specs.States.{first};
