@@ -1,5 +1,5 @@
 -- The laws that every system keeps.
-use Rattle.std.specs.Prelude.{◌≡◌, ℕ, ◌<◌, ◌≤◌, Bool, true, false, ◌⊎◌, Ok, Err, Result}
+use Rattle.std.specs.Prelude.{◌≡◌, ℕ, ◌<◌, ◌≤◌, true, false, ◌⊎◌, Ok, Err}
 use Rattle.transition.specs.declared.refusal.Refusal.{Refusal}
 use Rattle.transition.specs.declared.refusal.Refusal.TheVariants.{Late, Lacking, NotDoomed, NotFitting}
 use Rattle.transition.specs.Refusals.{number}
