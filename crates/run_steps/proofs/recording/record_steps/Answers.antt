@@ -18,7 +18,7 @@ loop-event-preserved g c =
     let answer : c.call-answer.result ≡ told (M.gives e x) = c.call-answer.ensures.answer ∙ ap (λ s. told ((meaning s).gives e x)) same in
     let made = step_is M x e e _ _ refl answer (c.state.ensures ∙ next) in (
       c.call-answer.ensures.system ∙ same,
-      ap (λ ys. ys ++ steps M c.call-answer.new.self.state (drop (c.loop-event.event-index + 1) c.args.events.now)) c.in-ok-push.ensures.items
+      ap (λ ys. ys ++ steps M c.call-answer.new.self.state (drop (c.loop-event.event-index + 1) c.args.events.now)) c.in_ok-push.ensures.items
           ∙ steps_more M x c.call-answer.new.self.state c.args.events.now c.loop-event.event-index (vec_items c.loop-event.steps) _ _ (omega arith) made next c.loop-event.invariant.1,
       walk_more M x c.call-answer.new.self.state _ c.args.events.now c.loop-event.event-index (omega arith) next c.loop-event.invariant.2,
     )

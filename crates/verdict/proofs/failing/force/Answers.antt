@@ -37,7 +37,7 @@ loop-forced-preserved g c =
     let y = c.call.new.self.state in
     let n = next g c in
     let inv = c.loop-forced.invariant in
-    let more : vec_items c.push.new.self ≡ es ++ e ∷ [] = c.in-ok-push.ensures.items in
+    let more : vec_items c.push.new.self ≡ es ++ e ∷ [] = c.in_ok-push.ensures.items in
     let forces : Forces M c.args.run.now.state (es ++ e ∷ []) y = forces_push M es e c.args.run.now.state c.loop-forced.run.state y inv.2 (asked g c) n.given in
     let few : length (es ++ e ∷ []) + left M y ≤ 1151 = omega (arith, length-append es (e ∷ []), n.fewer, inv.3) in (
       c.call.ensures.system ∙ inv.0,

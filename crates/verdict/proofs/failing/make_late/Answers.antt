@@ -7,14 +7,14 @@ pub force-requires : goal.force-requires
 force-requires g c =
     let means = g.S.System.meaning in
     let s = c.args.system.now in
-    let es = vec_items c.in-ok-events.events in
-    doomed_then means s (g.met.S.System.lawful s) c.args.visits.now c.requires es c.in-ok-events.ensures c.run-after-run.result (c.run-after-run.ensures ∙ ap (calls means (begun means s)) c.deref.ensures.value)
+    let es = vec_items c.in_ok-events.events in
+    doomed_then means s (g.met.S.System.lawful s) c.args.visits.now c.requires es c.in_ok-events.ensures c.run-after-run.result (c.run-after-run.ensures ∙ ap (calls means (begun means s)) c.deref.ensures.value)
 
 pub returns : goal.returns
 returns g c =
     let means = g.S.System.meaning in
     let s = c.args.system.now in
-    let es = vec_items c.in-ok-events.events in
-    let told = c.in-ok-forced.ensures in
-    fails means s (g.met.S.System.lawful s) c.args.visits.now c.requires es c.in-ok-events.ensures c.run-after-run.result (c.run-after-run.ensures ∙ ap (calls means (begun means s)) c.deref.ensures.value)
-    (vec_items c.in-ok-forced.forced) c.force.new.run told.system told.forces told.few told.late
+    let es = vec_items c.in_ok-events.events in
+    let told = c.in_ok-forced.ensures in
+    fails means s (g.met.S.System.lawful s) c.args.visits.now c.requires es c.in_ok-events.ensures c.run-after-run.result (c.run-after-run.ensures ∙ ap (calls means (begun means s)) c.deref.ensures.value)
+    (vec_items c.in_ok-forced.forced) c.force.new.run told.system told.forces told.few told.late

@@ -16,11 +16,11 @@ pub verdict-on-requires : goal.verdict-on-requires
 verdict-on-requires g c κs =
     λ h. subst (λ n. ShownLate (g.S.System.meaning c.args.system.now) (take n c.explore-outcome.new.visits)) (sym (front c.explore-outcome.result.2)) (c.explore-outcome.ensures.shown_late h)
 
-pub returns-in-err-verdict : goal.returns-in-err-verdict
-returns-in-err-verdict g c =
+pub returns-in_err-verdict : goal.returns-in_err-verdict
+returns-in_err-verdict g c =
     let p = err_from_is_err_and c.from-residual.result c.from-residual.ensures.1 in
     let told = c.explore-outcome.ensures in
-    let was : c.explore-outcome.result.0 ≡ Unschedulable = c.in-err-verdict.ensures.no_memory in
+    let was : c.explore-outcome.result.0 ≡ Unschedulable = c.in_err-verdict.ensures.no_memory in
     rw p.1
     (record {
       never_late = tt;
@@ -46,14 +46,14 @@ returns g c =
     let s = c.args.system.now in
     let told = c.explore-outcome.ensures in
     let o : Outcome = c.explore-outcome.result.0 in
-    let v = c.in-ok-verdict.verdict in
-    let shows : outcome_of v ≡ o = c.in-ok-verdict.ensures.outcome in
+    let v = c.in_ok-verdict.verdict in
+    let shows : outcome_of v ≡ o = c.in_ok-verdict.ensures.outcome in
     record {
       never_late = λ h. runs_never_late means s (told.never_late (sym shows ∙ ap outcome_of h));
       closed = λ h. told.closed (sym shows ∙ ap outcome_of h);
       shown_late = λ f h.
           subst (λ n. Fails means s (take n c.explore-outcome.new.visits) (vec_items f.events) (vec_items f.forced) f.run) (front c.explore-outcome.result.2)
-          (c.in-ok-verdict.ensures.fails f h);
+          (c.in_ok-verdict.ensures.fails f h);
       ever_late = λ f h. told.ever_late (sym shows ∙ ap outcome_of h);
       nodes_honestly_full = λ h. told.nodes_honestly_full (sym shows ∙ ap outcome_of h);
       visits_honestly_full = λ h. told.visits_honestly_full (sym shows ∙ ap outcome_of h);
