@@ -43,7 +43,7 @@ module _ {X : Type 0} (M : Meaning X) where
   replay_fits W [] x y f a = cc
   replay_fits W (e ∷ es) x y f a =
       let k = onward_some (M.gives e x) (λ w. replay M w es) y a in
-      replay_fits W es k.0 y (W.result_Fits e x k.0 f k.1) k.2
+      replay_fits W es k.0 y (W.result_fits e x k.0 f k.1) k.2
 
   pub reached_fits : Laws M → (x : X) → Reached M x → M.fits x ≡ true
   reached_fits W x r = replay_fits W r.0 M.first x W.first_fits r.1
