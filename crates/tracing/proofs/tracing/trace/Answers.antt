@@ -16,9 +16,9 @@ returns-then-number-eq0 c =
       refusal_leaves = λ _ _. refl;
     }
 
-pub returns-in-default : goal.returns-in-default
-returns-in-default c =
-    let is = traced_broken c.args.visits.now c.args.number (length c.args.list.now) (omega arith) (omega arith) c.in-default.ensures in
+pub returns-in_default : goal.returns-in_default
+returns-in_default c =
+    let is = traced_broken c.args.visits.now c.args.number (length c.args.list.now) (omega arith) (omega arith) c.in_default.ensures in
     record {
       answers = sym (ap counted is);
       justified = justified c.args.visits.now c.args.number (length c.args.list.now) _ (sym (ap counted is));
@@ -49,7 +49,7 @@ returns c =
     let counts = c.in-Some.ensures in
     let fits : n ≤ room = omega arith in
     let is = traced_told vs k room low high n counts fits in
-    let writes = c.write-events.ensures (told vs k room low high n counts) (told_chained vs k room low high n counts) in
+    let writes = c.write_events.ensures (told vs k room low high n counts) (told_chained vs k room low high n counts) in
     let answers = ap Ok (sym (told_long vs k room low high n counts)) ∙ sym (ap counted is) in
     record {
       answers = answers;
@@ -57,7 +57,7 @@ returns c =
       leaves = writes ∙ sym (ap (λ t. over_front t c.args.list.now) is);
       tells_chain = λ count q.
           let same : n ≡ count = same_count n count q in
-          let tells = tells_chain vs k room low high n counts c.args.list.now c.write-events.new.list writes in
-          subst (λ m. (m ≤ room) × Chain vs k (take m c.write-events.new.list) × (drop m c.write-events.new.list ≡ drop m c.args.list.now)) same (fits, tells.0, tells.1);
+          let tells = tells_chain vs k room low high n counts c.args.list.now c.write_events.new.list writes in
+          subst (λ m. (m ≤ room) × Chain vs k (take m c.write_events.new.list) × (drop m c.write_events.new.list ≡ drop m c.args.list.now)) same (fits, tells.0, tells.1);
       refusal_leaves = λ refusal q. not_both n refusal q;
     }
