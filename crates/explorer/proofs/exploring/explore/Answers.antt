@@ -7,12 +7,12 @@ use Rattle.explorer.proofs.Lents.{drop_later}
 use Rattle.explorer.proofs.Ends.{explored_over, explored_on, tells, decides, as_entered}
 use Rattle.explorer.proofs.exploring.explore.Goals as goal
 
-pub returns-then-nodes-gt-MOST-NODES : goal.returns-then-nodes-gt-MOST-NODES
-returns-then-nodes-gt-MOST-NODES g c =
+pub returns-then-nodes-gt-MOST_NODES : goal.returns-then-nodes-gt-MOST_NODES
+returns-then-nodes-gt-MOST_NODES g c =
     let M = g.S.System.meaning c.args.system.now in
     let P = length c.args.nodes.now in
     let L = length c.args.visits.now in
-    let large : IsTooLarge P L = ⊎_elim (λ h. inl h) (λ h. inr h.1) c.then-nodes-gt-MOST-NODES.either in
+    let large : IsTooLarge P L = ⊎_elim (λ h. inl h) (λ h. inr h.1) c.then-nodes-gt-MOST_NODES.either in
     let is = explored_too_large M P L large in
     let W = g.met.S.System.lawful c.args.system.now in
     let T = tells M P L W is in
@@ -68,21 +68,21 @@ returns-in-None g c =
     let L = length c.args.visits.now in
     let small : P ≤ 4096 = omega arith in
     let few : L ≤ 65535 = omega arith in
-    let ns = c.open-all-outcome.new.nodes in
-    let n = c.open-all-outcome.new.counts.nodes in
-    let vs = c.open-all-outcome.new.visits in
-    let v = c.open-all-outcome.new.counts.visits in
+    let ns = c.open_all-outcome.new.nodes in
+    let n = c.open_all-outcome.new.counts.nodes in
+    let vs = c.open_all-outcome.new.visits in
+    let v = c.open_all-outcome.new.counts.visits in
     let begun = c.in-None.ensures.enters [] in
-    let end = c.open-all-outcome.ensures.ends begun.0 in
+    let end = c.open_all-outcome.ensures.ends begun.0 in
     let is =
-    explored_on M P L small few c.first.result c.first.ensures (held c.enter.new.nodes c.enter.new.counts.nodes c.enter.new.visits c.enter.new.counts.visits begun.0) (held ns n vs v end.0) c.open-all-outcome.result
+    explored_on M P L small few c.first.result c.first.ensures (held c.enter.new.nodes c.enter.new.counts.nodes c.enter.new.visits c.enter.new.counts.visits begun.0) (held ns n vs v end.0) c.open_all-outcome.result
     (length c.enter.new.nodes) (length c.enter.new.visits) (omega arith) (omega arith) begun.1 end.1 in
     let W = g.met.S.System.lawful c.args.system.now in
     let T = tells M P L W is in
     record {
       answers = sym (ap shown is);
-      within = (omega (arith, c.open-all-outcome.ensures.nodes_within), omega (arith, c.open-all-outcome.ensures.visits_within));
-      untouched = c.open-all-outcome.ensures.untouched ∙ drop_later c.enter.new.counts.visits v c.enter.new.visits c.args.visits.now c.open-all-outcome.ensures.grows c.enter.ensures.untouched;
+      within = (omega (arith, c.open_all-outcome.ensures.nodes_within), omega (arith, c.open_all-outcome.ensures.visits_within));
+      untouched = c.open_all-outcome.ensures.untouched ∙ drop_later c.enter.new.counts.visits v c.enter.new.visits c.args.visits.now c.open_all-outcome.ensures.grows c.enter.ensures.untouched;
       too_large = λ large. absurd (⊎_elim (λ (h : 4096 < P). omega arith) (λ (h : 65535 < L). omega arith) large);
       too_large_only = λ h. (T.too_large h).0;
       never_late = T.never_late;
