@@ -13,5 +13,5 @@ returns-in-2 c = sym (ap event c.in-2.is)
 other : (e : ℕ) → (e ≡ 1 → ⊥) → (e ≡ 2 → ⊥) → event e ≡ codes "no event of the lock"
 other e not-1 not-2 = rw (ne_eqb e 1 not-1, ne_eqb e 2 not-2)
 
-pub returns-in-default : goal.returns-in-default
-returns-in-default c = sym (other c.args.self.0 (λ h. omega arith) (λ h. omega arith))
+pub returns-in_default : goal.returns-in_default
+returns-in_default c = sym (other c.args.self.0 (λ h. omega arith) (λ h. omega arith))
