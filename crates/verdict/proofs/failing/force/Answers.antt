@@ -55,6 +55,6 @@ returns g c =
       system = inv.0;
       forces = inv.2;
       few = omega (arith, inv.3);
-      late = late_at_last (g.S.System.meaning s) (g.met.S.System.lawful s) x c.in-default.field-0 inv.1
-          (sym (c.in-default.ensures.answer ∙ ap (λ q. (g.S.System.meaning q).forced x) inv.0));
+      late = late_at_last (g.S.System.meaning s) (g.met.S.System.lawful s) x c.in_default.field-0 inv.1
+          (sym (c.in_default.ensures.answer ∙ ap (λ q. (g.S.System.meaning q).forced x) inv.0));
     }

@@ -8,7 +8,7 @@ force-requires g c =
     let means = g.S.System.meaning in
     let s = c.args.system.now in
     let es = vec_items c.in_ok-events.events in
-    doomed_then means s (g.met.S.System.lawful s) c.args.visits.now c.requires es c.in_ok-events.ensures c.run-after-run.result (c.run-after-run.ensures ∙ ap (calls means (begun means s)) c.deref.ensures.value)
+    doomed_then means s (g.met.S.System.lawful s) c.args.visits.now c.requires es c.in_ok-events.ensures c.run_after-run.result (c.run_after-run.ensures ∙ ap (calls means (begun means s)) c.deref.ensures.value)
 
 pub returns : goal.returns
 returns g c =
@@ -16,5 +16,5 @@ returns g c =
     let s = c.args.system.now in
     let es = vec_items c.in_ok-events.events in
     let told = c.in_ok-forced.ensures in
-    fails means s (g.met.S.System.lawful s) c.args.visits.now c.requires es c.in_ok-events.ensures c.run-after-run.result (c.run-after-run.ensures ∙ ap (calls means (begun means s)) c.deref.ensures.value)
+    fails means s (g.met.S.System.lawful s) c.args.visits.now c.requires es c.in_ok-events.ensures c.run_after-run.result (c.run_after-run.ensures ∙ ap (calls means (begun means s)) c.deref.ensures.value)
     (vec_items c.in_ok-forced.forced) c.force.new.run told.system told.forces told.few told.late

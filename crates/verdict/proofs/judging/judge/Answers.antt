@@ -12,13 +12,13 @@ use Rattle.verdict.proofs.judging.judge.Goals as goal
 front : (n : ℕ) → n - 0 ≡ n
 front n = omega arith
 
-pub verdict-on-requires : goal.verdict-on-requires
-verdict-on-requires g c κs =
+pub verdict_on-requires : goal.verdict_on-requires
+verdict_on-requires g c =
     λ h. subst (λ n. ShownLate (g.S.System.meaning c.args.system.now) (take n c.explore-outcome.new.visits)) (sym (front c.explore-outcome.result.2)) (c.explore-outcome.ensures.shown_late h)
 
 pub returns-in_err-verdict : goal.returns-in_err-verdict
 returns-in_err-verdict g c =
-    let p = err_from_is_err_and c.from-residual.result c.from-residual.ensures.1 in
+    let p = err_from_is_err_and c.from_residual.result c.from_residual.ensures.1 in
     let told = c.explore-outcome.ensures in
     let was : c.explore-outcome.result.0 ≡ Unschedulable = c.in_err-verdict.ensures.no_memory in
     rw p.1
