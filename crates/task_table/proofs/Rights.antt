@@ -1,5 +1,5 @@
 -- The test for right tasks tells the rule, of one task and of all in a list.
-use Rattle.std.proofs.Common.{◌≡◌, ℕ, ◌+◌, ◌<◌, ◌≤◌, Bool, true, false, List, [], ◌∷◌, ◌++◌, length, get_or, take, set, Decides, refl, arith}
+use Rattle.std.proofs.Common.{◌≡◌, ℕ, ◌+◌, ◌<◌, ◌≤◌, true, List, [], ◌∷◌, ◌++◌, length, get_or, take, set, Decides, refl, arith}
 use Rattle.std.specs.List.{AllByRecursion as All}
 use Rattle.std.proofs.lemmas.Bool.Decides.{nat_tests}
 use Rattle.std.proofs.ByRecursion.{Decides-by_and, All-push, All-get_or}
@@ -7,7 +7,7 @@ use Rattle.std.proofs.lemmas.List.{take_more_set, get_or-take, length-take-le}
 use Rattle.task_table.specs.declared.task.Criticality.{Criticality}
 use Rattle.task_table.specs.declared.task.Criticality.TheVariants.{Low, High}
 use Rattle.task_table.specs.declared.task.Task.{Task}
-use Rattle.task_table.specs.Tasks.{Right, is_right, all_right, budgets_right}
+use Rattle.task_table.specs.Tasks.{Right, is_right, all_right}
 
 -- at a criticality that is known, the test and the rule are the same orders of numbers
 right_at : (t : Task) (k : Criticality) → t.criticality ≡ k → Decides (is_right t) (Right t)

@@ -1,5 +1,5 @@
 -- Drafts and tables as lists of tasks, and what adding a task does.
-use Rattle.std.specs.Prelude.{ℕ, ◌-◌, Bool, cond, List, [], ◌∷◌, ◌++◌, length, take, None, Ok, Err, Option, Result, nat_lt}
+use Rattle.std.specs.Prelude.{ℕ, ◌-◌, cond, List, [], ◌∷◌, ◌++◌, length, take, None, Ok, Err, Option, Result, nat_lt}
 use Rattle.std.specs.List.{slice_get}
 use Rattle.task_table.specs.Tasks.{is_right}
 use Rattle.task_table.specs.declared.task.Task.{Task}

@@ -1,4 +1,4 @@
-use Rattle.std.proofs.Common.{◌≡◌, ◌<◌, true, ltb, length, take, sym, arith, length-set}
+use Rattle.std.proofs.Common.{◌≡◌, true, ltb, length, take, sym, arith, length-set}
 use Rattle.std.proofs.lemmas.List.{take-set, take_more_set, length-take-le}
 use Rattle.std.proofs.lemmas.Bool.{lt-ltb}
 use Rattle.task_table.specs.Tasks.{is_right}
