@@ -1,5 +1,5 @@
 -- What divides both of two numbers, and what is left in lowest terms.
-use Rattle.std.proofs.Common.{◌≡◌, ℕ, ◌*◌, ◌/◌, ◌%◌, ◌<◌, sym, ap, ◌∙◌, subst, mul_assoc, mul_comm, one-mul, arith}
+use Rattle.std.proofs.Common.{ℕ, ◌*◌, ◌/◌, ◌%◌, ◌<◌, sym, ap, ◌∙◌, subst, mul_assoc, mul_comm, one-mul}
 use Prim.Native.Nat.{◌∣◌}
 use native.Mathlib.Nat.{dvd-mod_iff, dvd_refl, dvd-zero, div-mul_cancel, dvd_of_mul-dvd-mul_right, mul-dvd-mul_right, pos_of_dvd_of_pos, eq-one_of_dvd-one, dvd-mul_right}
 use Rattle.task_load.specs.Fractions.{Same, Lowest, over}

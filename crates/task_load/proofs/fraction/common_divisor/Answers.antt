@@ -1,4 +1,4 @@
-use Rattle.std.proofs.Common.{◌≡◌, subst, arith, rules}
+use Rattle.std.proofs.Common.{◌≡◌, subst, arith}
 use Rattle.task_load.proofs.Divisors.{Alike, alike_itself, alike_rest, alike_divides}
 use Rattle.task_load.proofs.fraction.common_divisor.Goals as goal
 

@@ -1,13 +1,12 @@
-use Rattle.std.proofs.Common.{◌≡◌, ℕ, ◌+◌, get_or, drop, fold, sym, refl, ap, ◌∙◌, subst, arith}
+use Rattle.std.proofs.Common.{◌≡◌, ◌+◌, get_or, fold, sym, refl, ap, ◌∙◌, subst, arith}
 use Rattle.std.proofs.ByRecursion.{All-get_or}
 use Rattle.std.proofs.lemmas.List.{at_drop_more, at_drop_all}
 use Rattle.task_table.specs.Tasks.{Right}
 use Rattle.task_table.specs.declared.task.Criticality.TheVariants.{Low}
 use Rattle.task_table.specs.declared.task.Task.{Task}
-use Rattle.task_load.specs.declared.fraction.Fraction.{Fraction}
 use Rattle.task_load.specs.Fractions.{plus, Same}
-use Rattle.task_load.specs.Loads.{demand, with_task, load}
-use Rattle.task_load.proofs.Bounds.{Small, small_none, small_with, small_fits}
+use Rattle.task_load.specs.Loads.{with_task, load}
+use Rattle.task_load.proofs.Bounds.{small_none, small_with, small_fits}
 use Rattle.task_load.proofs.load.load.Goals as goal
 
 -- what a read past the end would give
