@@ -1,11 +1,11 @@
 -- How pieces and words are cut off from the front.
-use Rattle.std.proofs.Common.{◌≡◌, ℕ, zero, suc, ◌+◌, ◌<◌, ◌≤◌, Bool, true, false, cond, not, leb, ◌⊎◌, List, [], ◌∷◌, ◌++◌, length, get_or, take, drop, filter, sym, refl, ap, ◌∙◌, inl, inr, one-add, arith}
+use Rattle.std.proofs.Common.{◌≡◌, ℕ, zero, suc, ◌+◌, ◌<◌, ◌≤◌, Bool, true, false, not, leb, ◌⊎◌, List, [], ◌∷◌, length, get_or, take, drop, filter, sym, refl, ap, ◌∙◌, inl, inr, one-add, arith}
 use lib.Seq.{drop-length}
 use Rattle.std.specs.List.{prefix_len}
 use Rattle.std.proofs.lemmas.List.{drop_more, drop-drop, take_all, length-drop}
 use Rattle.std.proofs.lemmas.List.Sums.{prefix_len-le-length}
 use Rattle.std.proofs.lemmas.Bool.Decides.{leb_tells}
-use Rattle.table_text.specs.Pieces.{pieces, longer_by, filled, words, separates}
+use Rattle.table_text.specs.Pieces.{pieces, filled, words, separates}
 use Rattle.table_text.specs.declared.pieces.Separator.TheVariants.{Blank}
 
 module _ (sep : ℕ → Bool) where

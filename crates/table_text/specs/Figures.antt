@@ -1,5 +1,5 @@
 -- What a word writes of a task.
-use Rattle.std.specs.Prelude.{ℕ, ◌+◌, ◌-◌, ◌*◌, Bool, true, false, cond, ◌&&◌, List, [], ◌∷◌, Some, None, codes, fold, Option, ◌==◌, nat_le}
+use Rattle.std.specs.Prelude.{ℕ, ◌+◌, ◌-◌, ◌*◌, Bool, true, cond, ◌&&◌, List, [], ◌∷◌, Some, None, codes, fold, Option, ◌==◌, nat_le}
 use Rattle.task_table.specs.declared.task.Criticality.{Criticality}
 use Rattle.task_table.specs.declared.task.Criticality.TheVariants.{Low, High}
 use Rattle.table_text.specs.Pieces.{filled}

@@ -1,5 +1,5 @@
 -- The task that a line writes.
-use Rattle.std.specs.Prelude.{ℕ, Bool, cond, List, [], length, Some, None, Ok, Err, Option, Result, ◌==◌, slice_index_or}
+use Rattle.std.specs.Prelude.{ℕ, cond, List, [], length, Some, None, Ok, Err, Option, Result, ◌==◌, slice_index_or}
 use Rattle.std.specs.Option.{ok_or}
 use Rattle.task_table.specs.declared.task.Task.{Task}
 use Rattle.table_text.specs.Pieces.{words, bare}

@@ -1,4 +1,4 @@
-use Rattle.std.proofs.Common.{◌≡◌, ℕ, ◌+◌, ◌<◌, ◌≤◌, true, false, List, length, get_or, drop, Some, None, sym, ap, ◌∙◌, arith}
+use Rattle.std.proofs.Common.{◌≡◌, ℕ, ◌+◌, ◌<◌, ◌≤◌, true, false, List, length, get_or, drop, sym, ◌∙◌, arith}
 use Rattle.std.proofs.lemmas.List.{at_drop_more, at_drop_all}
 use Rattle.std.proofs.lemmas.Bool.Decides.{nat_tests}
 use Rattle.table_text.specs.Figures.{is_digit, with_digit, value_within}
@@ -8,7 +8,7 @@ use Rattle.table_text.proofs.figures.value_within.Goals.{then-digit-lt48-via-the
 
 pub loop-digit-init : goal.loop-digit-init
 loop-digit-init c =
-    let some : 0 < length c.args.word.now = grind (arith, nat_tests, c.if-is-empty.ensures) in
+    let some : 0 < length c.args.word.now = grind (arith, nat_tests, c.if-is_empty.ensures) in
     (reading_word c.args.most c.args.word.now some, omega arith)
 
 pub returns-then-digit-lt48 : goal.returns-then-digit-lt48

@@ -1,4 +1,4 @@
-use Rattle.std.proofs.Common.{◌≡◌, ℕ, Bool, not, sym, ap, arith, rules}
+use Rattle.std.proofs.Common.{ℕ, Bool, not, sym, ap, arith, rules}
 use Rattle.std.proofs.lemmas.List.Sums.{prefix_len-drop_yes, prefix_len-drop_no, prefix_len-drop_all}
 use Rattle.table_text.specs.Pieces.{separates}
 use Rattle.table_text.proofs.pieces.Separator.reach.Goals as goal
