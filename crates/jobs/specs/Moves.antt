@@ -1,5 +1,5 @@
 -- What happens to one job: its release, and the steps of a tick that concern it alone.
-use Rattle.std.specs.Prelude.{ℕ, ◌-◌, Bool, true, false, cond, Ok, Err, Result, ◌==◌}
+use Rattle.std.specs.Prelude.{◌-◌, Bool, true, false, cond, Ok, Err, Result, ◌==◌}
 use Rattle.task_table.specs.declared.mode.Mode.{Mode}
 use Rattle.task_table.specs.declared.mode.Mode.TheVariants.{Low, High}
 use Rattle.task_table.specs.declared.task.Task.{Task}
