@@ -11,7 +11,6 @@ use Rattle.jobs.specs.declared.kind.Kind.{Kind}
 use Rattle.jobs.specs.declared.job.Job.{Job}
 use Rattle.jobs.specs.declared.job.Job.TheVariants.{Absent, Idle, Ready, Dropped}
 use Rattle.job_state.specs.declared.state.State.{State}
-use Rattle.jobs.specs.Tasks.{budget}
 use Rattle.jobs.specs.Jobs.{fits_job}
 use Rattle.job_state.specs.Lists.{every, any, over}
 use Rattle.jobs.specs.Moves.{waited, run, ended, used_up, last_budget}

@@ -15,7 +15,7 @@ returns-then-not-passes g c =
     let more : every p (drop i ts) (drop i xs) ≡ (c.if-i-tasks.passes && every p (drop (i + 1) ts) (drop (i + 1) xs)) =
     elim c.if-i-tasks.branch [
       | then-i-tasks w ↦ every_more p ts xs i no_task Absent _ (omega arith) (inl (w.if-i-tasks.true, w.passes-is ∙ w.test-passes.ensures))
-      | else-i-tasks w ↦ every_more p ts xs i no_task Absent _ (omega arith) (inr (w.if-i-tasks.false, w.passes-is ∙ w.is-absent-passes.ensures))
+      | else-i-tasks w ↦ every_more p ts xs i no_task Absent _ (omega arith) (inr (w.if-i-tasks.false, w.passes-is ∙ w.is_absent-passes.ensures))
     ] in
     sym (sym c.loop-i.invariant ∙ (more ∙ ap (λ (b : Bool). b && every p (drop (i + 1) ts) (drop (i + 1) xs)) c.if-not-passes.true))
 
@@ -28,7 +28,7 @@ loop-i-preserved g c =
     let more : every p (drop i ts) (drop i xs) ≡ (c.if-i-tasks.passes && every p (drop (i + 1) ts) (drop (i + 1) xs)) =
     elim c.if-i-tasks.branch [
       | then-i-tasks w ↦ every_more p ts xs i no_task Absent _ (omega arith) (inl (w.if-i-tasks.true, w.passes-is ∙ w.test-passes.ensures))
-      | else-i-tasks w ↦ every_more p ts xs i no_task Absent _ (omega arith) (inr (w.if-i-tasks.false, w.passes-is ∙ w.is-absent-passes.ensures))
+      | else-i-tasks w ↦ every_more p ts xs i no_task Absent _ (omega arith) (inr (w.if-i-tasks.false, w.passes-is ∙ w.is_absent-passes.ensures))
     ] in
     sym (more ∙ ap (λ (b : Bool). b && every p (drop (i + 1) ts) (drop (i + 1) xs)) c.if-not-passes.false) ∙ c.loop-i.invariant
 

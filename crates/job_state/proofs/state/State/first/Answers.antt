@@ -6,4 +6,4 @@ use Rattle.job_state.proofs.state.State.first.Goals as goal
 
 pub returns : goal.returns
 unfolding first
-returns c = same_state _ _ refl (c.change-all.ensures ∙ over_absent c.args.kind c.args.tasks.now 8)
+returns c = same_state _ _ refl (c.change_all.ensures ∙ over_absent c.args.kind c.args.tasks.now 8)

@@ -3,4 +3,4 @@ use Rattle.job_state.proofs.state.State.fits.Goals as goal
 
 pub returns : goal.returns
 unfolding fits
-returns c = c.every-passes.ensures
+returns c = c.every_passes.ensures

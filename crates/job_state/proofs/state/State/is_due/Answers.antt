@@ -3,4 +3,4 @@ use Rattle.job_state.proofs.state.State.is_due.Goals as goal
 
 pub returns : goal.returns
 unfolding due
-returns c = c.any-passes.ensures
+returns c = c.any_passes.ensures

@@ -3,4 +3,4 @@ use Rattle.job_state.proofs.state.State.is_late.Goals as goal
 
 pub returns : goal.returns
 unfolding late
-returns c = c.any-passes.ensures
+returns c = c.any_passes.ensures

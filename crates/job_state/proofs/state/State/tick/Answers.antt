@@ -20,7 +20,7 @@ serve-requires c =
       above = c.if-number-ge1.true;
       task = c.if-number-tasks.true;
       job = omega (arith, s.wide);
-      room = λ low. ap (any over_budget ts) c.wait-all.ensures ∙ fits_within c.args.kind ts s.jobs (subst (λ (m : Mode). every (fits_job c.args.kind m) ts s.jobs ≡ true) low fitting);
+      room = λ low. ap (any over_budget ts) c.wait_all.ensures ∙ fits_within c.args.kind ts s.jobs (subst (λ (m : Mode). every (fits_job c.args.kind m) ts s.jobs ≡ true) low fitting);
     }
 
 pub returns-then-number-tasks : goal.returns-then-number-tasks
@@ -28,7 +28,7 @@ returns-then-number-tasks c =
     let s = c.args.self.now in
     let ts = c.args.tasks.now in
     let fitting = sym c.if-not-fits.ensures in
-    let is = tick_served ts c.args.finishing s c.wait-all.new.jobs c.wait-all.ensures _ c.in-Some.number c.serve.new.self c.serve.ensures in
+    let is = tick_served ts c.args.finishing s c.wait_all.new.jobs c.wait_all.ensures _ c.in-Some.number c.serve.new.self c.serve.ensures in
     record {
       answers = sym (cond-true _ _ _ fitting);
       leaves = is ∙ (ap (λ (o : Option ℕ). ticked ts c.args.finishing o s) (sym c.in-Some.is) ∙ sym (cond-true _ _ _ fitting));
@@ -40,19 +40,19 @@ returns-else-number-ge1 c =
     let ts = c.args.tasks.now in
     let fitting = sym c.if-not-fits.ensures in
     let far : (c.in-Some.number ≡ 0) ⊎ (length ts < c.in-Some.number) = elim c.else-number-ge1.either [ inl h ↦ inr h.1 | inr h ↦ inl (omega arith) ] in
-    let is = tick_nobody ts c.args.finishing s c.wait-all.new.jobs c.wait-all.ensures _ c.in-Some.number (unnumbered ts c.in-Some.number far) in
+    let is = tick_nobody ts c.args.finishing s c.wait_all.new.jobs c.wait_all.ensures _ c.in-Some.number (unnumbered ts c.in-Some.number far) in
     record {
       answers = sym (cond-true _ _ _ fitting);
       leaves = is ∙ (ap (λ (o : Option ℕ). ticked ts c.args.finishing o s) (sym c.in-Some.is) ∙ sym (cond-true _ _ _ fitting));
     }
 
-pub returns-in-default : goal.returns-in-default
-returns-in-default c =
+pub returns-in_default : goal.returns-in_default
+returns-in_default c =
     let s = c.args.self.now in
     let ts = c.args.tasks.now in
     let fitting = sym c.if-not-fits.ensures in
-    let is = tick_none ts c.args.finishing s c.wait-all.new.jobs c.wait-all.ensures _ in
+    let is = tick_none ts c.args.finishing s c.wait_all.new.jobs c.wait_all.ensures _ in
     record {
       answers = sym (cond-true _ _ _ fitting);
-      leaves = is ∙ (ap (λ (o : Option ℕ). ticked ts c.args.finishing o s) (sym c.in-default.is) ∙ sym (cond-true _ _ _ fitting));
+      leaves = is ∙ (ap (λ (o : Option ℕ). ticked ts c.args.finishing o s) (sym c.in_default.is) ∙ sym (cond-true _ _ _ fitting));
     }
