@@ -1,5 +1,5 @@
 -- The best has the least figure, and the lowest number among equals.
-use Rattle.std.specs.Prelude.{◌≡◌, ℕ, zero, suc, ◌+◌, ◌-◌, ◌<◌, ◌≤◌, true, false, ◌⊎◌, List, [], ◌∷◌, ℤ, ◌≤ℤ◌, ◌<ℤ◌, Some, None, Option, int_le, refl}
+use Rattle.std.specs.Prelude.{◌≡◌, ℕ, zero, suc, ◌+◌, ◌<◌, true, false, ◌⊎◌, List, [], ◌∷◌, ℤ, ◌≤ℤ◌, ◌<ℤ◌, Some, None, Option, int_le, refl}
 use Rattle.std.proofs.Common.{sym, ap, subst, ◌∙◌, inl, inr, arith}
 use Rattle.std.specs.List.{slice_get}
 use Rattle.std.proofs.lemmas.Int.{ints}
@@ -8,7 +8,7 @@ use Rattle.task_table.specs.declared.task.Task.{Task}
 use Rattle.jobs.specs.declared.job.Job.{Job}
 use Rattle.jobs.specs.declared.job.Job.TheVariants.{Absent, Idle, Ready, Dropped}
 use Rattle.policies.specs.declared.best.Best.{Best}
-use Rattle.policies.specs.Leasts.{Figured, figure_of, better, offered, best, least}
+use Rattle.policies.specs.Leasts.{Figured, figure_of, better, offered, best}
 
 less_equal : (a b : ℤ) → int_le a b ≡ true → a ≤ℤ b
 less_equal a b h = grind (arith, ints)

@@ -8,7 +8,7 @@ pub loop-i-init : goal.loop-i-init
 loop-i-init g c = best_start (g.F.Figure.figured c.args.by.now c.args.mode) c.args.tasks.now c.args.jobs.now c.min-n.result (elim (cases_lt c.min-n.result (length c.args.tasks.now)) [ inl h ↦ inr (omega arith) | inr h ↦ inl h ])
 
 pub loop-i-preserved : goal.loop-i-preserved
-loop-i-preserved g c = best_down (g.F.Figure.figured c.args.by.now c.args.mode) c.args.tasks.now c.args.jobs.now c.loop-i.i _ _ c.loop-i.best c.offer-best.result c.figure-of-figure.result (omega arith) (omega arith) (omega arith) c.loop-i.invariant c.figure-of-figure.ensures c.offer-best.ensures
+loop-i-preserved g c = best_down (g.F.Figure.figured c.args.by.now c.args.mode) c.args.tasks.now c.args.jobs.now c.loop-i.i _ _ c.loop-i.best c.offer-best.result c.figure_of-figure.result (omega arith) (omega arith) (omega arith) c.loop-i.invariant c.figure_of-figure.ensures c.offer-best.ensures
 
 pub returns : goal.returns
 returns g c =

@@ -11,8 +11,8 @@ returns-in-Low g c =
     let s = c.args.state.now in
     let ts = c.args.tasks.now in
     let n : c.min.result - 0 ≡ min (length ts) 8 = omega arith in
-    let shown : take (c.min.result - 0) c.shorten-all.new.shown ≡ shortened p.deadlines.figures s.mode ts =
-    ap (λ (k : ℕ). take k c.shorten-all.new.shown) n ∙ (c.shorten-all.ensures ∙ ap (λ (m : Mode). shortened p.deadlines.figures m ts) (sym c.in-Low.is)) in
+    let shown : take (c.min.result - 0) c.shorten_all.new.shown ≡ shortened p.deadlines.figures s.mode ts =
+    ap (λ (k : ℕ). take k c.shorten_all.new.shown) n ∙ (c.shorten_all.ensures ∙ ap (λ (m : Mode). shortened p.deadlines.figures m ts) (sym c.in-Low.is)) in
     record { picks = c.pick.ensures.picks ∙ ap (λ (us : List Task). g.P.Policy.picks p.below us s.mode s.jobs) shown }
 
 pub returns-in-High : goal.returns-in-High
