@@ -1,5 +1,5 @@
 -- States of which one simulates the other: what they have in common.
-use Rattle.std.proofs.Common.{◌≡◌, true, false, List, refl, ◌∙◌, subst}
+use Rattle.std.proofs.Common.{◌≡◌, true, List, refl, ◌∙◌, subst}
 use Rattle.std.proofs.lemmas.Bool.{and_parts, and_from, false≢true}
 use Rattle.task_table.specs.declared.task.Task.{Task}
 use Rattle.task_table.specs.declared.mode.Mode.{Mode}

@@ -1,5 +1,5 @@
 -- The laws of a system of tasks.
-use Rattle.std.proofs.Common.{◌≡◌, ℕ, zero, suc, ◌-◌, ◌≤◌, true, false, List, [], ◌∷◌, length, Ok, Err, sym, refl, ◌∙◌, inl, inr, arith}
+use Rattle.std.proofs.Common.{◌≡◌, ℕ, zero, suc, ◌≤◌, true, false, List, [], ◌∷◌, length, Ok, Err, sym, refl, ◌∙◌, inl, inr, arith}
 use Rattle.std.proofs.lemmas.Bool.{and_parts, and_from, and_right, true≢false, cases_Bool}
 use Rattle.task_table.specs.declared.task.Task.{Task}
 use Rattle.task_table.specs.declared.mode.Mode.TheVariants.{Low}
@@ -13,9 +13,8 @@ use Rattle.job_state.specs.States.{first_jobs, first, fits, late, doomed}
 use Rattle.policies.specs.Picks.{Pick}
 use Rattle.policies.specs.Chosen.{nth_within}
 use Rattle.transition.specs.declared.refusal.Refusal as refusal
-use Rattle.transition.specs.Refusals.{number}
 use Rattle.transition.specs.Laws.{Laws}
-use Rattle.task_laws.specs.Systems.{late_in, doomed_in, simulates, picked, event, gives, forced_by, forced, meaning}
+use Rattle.task_laws.specs.Systems.{late_in, doomed_in, simulates, picked, gives, forced_by, forced, meaning}
 use Rattle.task_laws.specs.Claims.{Lawful, Table}
 use Rattle.task_laws.proofs.Jobwise.{jobwise, released_at}
 use Rattle.task_laws.proofs.Boths.{any_under}

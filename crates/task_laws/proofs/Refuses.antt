@@ -1,5 +1,5 @@
 -- What is refused, in the order of the tests, and by which numbers.
-use Rattle.std.proofs.Common.{◌≡◌, ℕ, ◌-◌, ◌<◌, Bool, true, false, cond, not, ◌&&◌, eqb, ◌⊎◌, List, is_some, None, Ok, Err, Option, Result, ap, subst, inl, inr, arith}
+use Rattle.std.proofs.Common.{◌≡◌, ℕ, ◌<◌, Bool, true, false, cond, not, ◌&&◌, eqb, ◌⊎◌, List, is_some, None, Ok, Err, Option, Result, ap, subst, inl, inr, arith}
 use Rattle.std.proofs.lemmas.Bool.{and_parts, ne_eqb}
 use Rattle.task_table.specs.declared.task.Task.{Task}
 use Rattle.task_table.specs.Tables.{numbered}
@@ -7,7 +7,7 @@ use Rattle.jobs.specs.declared.kind.Kind.{Kind}
 use Rattle.job_state.specs.declared.state.State.{State}
 use Rattle.jobs.specs.declared.refusal.JobRefusal.{JobRefusal}
 use Rattle.jobs.specs.declared.refusal.JobRefusal.TheVariants.{NoTask, TaskDropped, StillReady, Waiting, NonePicked, TaskDue, NotFitting}
-use Rattle.job_state.specs.Lists.{every, job_numbered}
+use Rattle.job_state.specs.Lists.{job_numbered}
 use Rattle.job_state.specs.States.{fits, late, due}
 use Rattle.job_state.specs.Releases.{answer_by, release_answer, released}
 use Rattle.job_state.proofs.Numbers.{unnumbered}

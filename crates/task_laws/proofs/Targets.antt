@@ -1,5 +1,5 @@
 -- The doomed job of least time to deadline.
-use Rattle.std.proofs.Common.{◌≡◌, ℕ, ◌+◌, ◌-◌, ◌*◌, ◌≤◌, Bool, true, false, cond, List, ℤ, pos, Some, None, Option, sym, refl, ap, ◌∙◌, subst, arith}
+use Rattle.std.proofs.Common.{◌≡◌, ℕ, ◌+◌, ◌*◌, ◌≤◌, Bool, true, false, cond, List, ℤ, pos, Some, None, Option, sym, refl, ap, ◌∙◌, subst, arith}
 use lib.Signed.{lt_z}
 use Rattle.std.proofs.lemmas.Bool.{true≢false, false≢true}
 use Rattle.task_table.specs.declared.mode.Mode.{Mode}
@@ -11,7 +11,6 @@ use Rattle.job_state.specs.declared.state.State.{State}
 use Rattle.jobs.specs.Jobs.{time_to_deadline, worst_laxity, doomed_job}
 use Rattle.job_state.specs.Lists.{any}
 use Rattle.policies.specs.declared.best.Best.{Best}
-use Rattle.policies.specs.Leasts.{best}
 use Rattle.policies.specs.Leads.{At, Led, nobody, lead, best_led}
 use Rattle.task_laws.specs.Systems.{by_doom, time_left, target, due_count, events_to_miss}
 use Rattle.task_laws.proofs.Jobwise.{figure}
