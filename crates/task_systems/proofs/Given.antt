@@ -6,7 +6,7 @@ use Rattle.jobs.specs.declared.job.Job.{Job}
 use Rattle.jobs.specs.declared.kind.Kind.{Kind}
 use Rattle.job_state.specs.declared.state.State.{State}
 use Rattle.job_state.specs.Lists.{lowest}
-use Rattle.job_state.specs.States.{fits, late, due}
+use Rattle.job_state.specs.States.{fits, late}
 use Rattle.policies.specs.declared.best.Best.{Best}
 use Rattle.policies.specs.Picks.{Pick}
 use Rattle.policies.specs.Leasts.{best}

@@ -11,8 +11,8 @@ returns g c =
     let a = c.args.a.now in
     let b = c.args.b.now in
     let ts = tasks_of c.args.self.now.table in
-    let told : c.does-simulate.result ≡ simulates (g.R.Releases.comes c.args.self.now.releases) ts a b =
-    c.does-simulate.ensures
+    let told : c.does_simulate.result ≡ simulates (g.R.Releases.comes c.args.self.now.releases) ts a b =
+    c.does_simulate.ensures
     ∙ (ap (λ (xs : List Task). simulates c.kind.result xs a b) c.tasks.ensures.answers ∙ ap (λ (k : Kind). simulates k ts a b) c.kind.ensures)
     in
     record {
