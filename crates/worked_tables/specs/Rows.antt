@@ -1,6 +1,5 @@
 -- A worked row: a task added to a draft, and the answer to it.
 use Rattle.std.specs.Prelude.{ℕ, List, Ok, Err, Result}
-use Rattle.task_table.specs.declared.task.Criticality.{Criticality}
 use Rattle.task_table.specs.declared.task.Criticality.TheVariants.{Low, High}
 use Rattle.task_table.specs.declared.task.Task.{Task}
 use Rattle.task_table.specs.declared.refusal.DraftRefusal.{DraftRefusal}
