@@ -1,7 +1,7 @@
 // What an event gives: 1 to 8 release a task, 9 is a tick, 10 a finishing tick.
 ghost use Rattle.std.specs.Prelude.{◌≡◌, true};
 ghost use Rattle.job_state.specs.States.{fits};
-ghost use Rattle.task_laws.specs.Systems.{release as released-event, tick as ticked-event, gives};
+ghost use Rattle.task_laws.specs.Systems.{release as released_event, tick as ticked_event, gives};
 
 use crate::answers::{accept, tell};
 use job_state::State;
@@ -47,7 +47,7 @@ fn release<P: Policy>(
     state: &State,
     event: u8,
 ) -> Result<State, Refusal>
-    ensures { result ≡ released-event (P.Policy.picks policy.now) kind tasks.now event state.now }
+    ensures { result ≡ released_event (P.Policy.picks policy.now) kind tasks.now event state.now }
 {
     let mut next = *state;
     let answer = next.release(tasks, usize::from(event));
@@ -63,7 +63,7 @@ fn tick<P: Policy>(
     finishing: bool,
 ) -> Result<State, Refusal>
     requires { fits kind tasks.now state.now ≡ true }
-    ensures { result ≡ ticked-event (P.Policy.picks policy.now) kind tasks.now finishing state.now }
+    ensures { result ≡ ticked_event (P.Policy.picks policy.now) kind tasks.now finishing state.now }
 {
     if state.is_due(kind, tasks) {
         return Err(tell(JobRefusal::TaskDue));

@@ -1,7 +1,7 @@
 // How the jobs of a system come, told by a type.
 ghost use Rattle.std.specs.Prelude.{◌≡◌};
 ghost use Rattle.jobs.specs.declared.kind.Kind.{Kind};
-ghost use Rattle.jobs.specs.declared.kind.Kind.TheVariants.{Sporadic as sporadic-kind, Periodic as periodic-kind};
+ghost use Rattle.jobs.specs.declared.kind.Kind.TheVariants.{Sporadic as sporadic_kind, Periodic as periodic_kind};
 
 use jobs::Kind;
 
@@ -17,7 +17,7 @@ pub trait Releases {
 pub struct SporadicReleases;
 
 impl Releases for SporadicReleases {
-    ghost comes = { λ _. sporadic-kind };
+    ghost comes = { λ _. sporadic_kind };
 
     fn kind(&self) -> Kind {
         Kind::Sporadic
@@ -29,7 +29,7 @@ impl Releases for SporadicReleases {
 pub struct PeriodicReleases;
 
 impl Releases for PeriodicReleases {
-    ghost comes = { λ _. periodic-kind };
+    ghost comes = { λ _. periodic_kind };
 
     fn kind(&self) -> Kind {
         Kind::Periodic

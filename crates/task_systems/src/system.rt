@@ -1,7 +1,7 @@
 // A table of tasks under a policy, as a transition system.
 ghost use Rattle.std.specs.Prelude.{◌≡◌, true};
 ghost use Rattle.task_table.specs.Tables.{tasks_of};
-ghost use Rattle.jobs.specs.declared.kind.Kind.TheVariants.{Periodic as periodic-kind};
+ghost use Rattle.jobs.specs.declared.kind.Kind.TheVariants.{Periodic as periodic_kind};
 ghost use Rattle.task_laws.specs.Systems.{meaning as means, simulates};
 ghost use Rattle.task_laws.proofs.Lawfuls.{laws};
 ghost use Rattle.task_systems.specs.Tables.{table_of};
@@ -73,7 +73,7 @@ impl<R: Releases, P: Policy> System for TaskSystem<R, P> {
 
     fn simulates(&self, a: &State, b: &State) -> bool
         ensures answers { result ≡ simulates (R.Releases.comes self.now.releases) (tasks_of self.now.table) a.now b.now }
-        ensures periodic_itself { R.Releases.comes self.now.releases ≡ periodic-kind → result ≡ true → a.now ≡ b.now }
+        ensures periodic_itself { R.Releases.comes self.now.releases ≡ periodic_kind → result ≡ true → a.now ≡ b.now }
     {
         does_simulate(self.releases.kind(), self.table.tasks(), a, b)
     }

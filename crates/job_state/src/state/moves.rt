@@ -1,7 +1,7 @@
 // What a new state is, and what a release does to it.
 ghost use Rattle.std.specs.Prelude.{◌≡◌, ℕ, ◌≢◌};
 ghost use Rattle.job_state.specs.Lists.{job_numbered};
-ghost use Rattle.job_state.specs.States.{first as first-state};
+ghost use Rattle.job_state.specs.States.{first as first_state};
 ghost use Rattle.job_state.specs.Releases.{release_answer, released};
 
 use crate::job_tests::change_all;
@@ -14,7 +14,7 @@ use task_table::task::Task;
 impl State {
     // The state of a new run: low, every task idle.
     pub fn first(kind: Kind, tasks: &[Task]) -> State
-        ensures { result ≡ first-state kind tasks.now }
+        ensures { result ≡ first_state kind tasks.now }
     {
         let mut jobs = [Job::Absent; 8];
         change_all(&First { kind }, tasks, &mut jobs);
