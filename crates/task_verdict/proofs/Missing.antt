@@ -25,7 +25,7 @@ module _ (kind : Kind) (tasks : List Task) where
 
 module _ (pick : Pick) (kind : Kind) (tasks : List Task) (W : Laws (meaning pick kind tasks)) where
   after_fits : (e : ℕ) (s : State) (o : Result State Refusal) → gives pick kind tasks e s ≡ o → fits kind tasks s ≡ true → fits kind tasks (after o s) ≡ true
-  after_fits e s (Ok t) g f = W.result_Fits e s t f g
+  after_fits e s (Ok t) g f = W.result_fits e s t f g
   after_fits e s (Err r) g f = f
 
   way_misses : (es : List ℕ) (s : State) → fits kind tasks s ≡ true → All (λ t. late_in kind tasks t ≡ false) (way (meaning pick kind tasks) s es) → All (λ t. late tasks t ≡ false) (way (meaning pick kind tasks) s es)

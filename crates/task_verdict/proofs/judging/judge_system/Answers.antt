@@ -19,11 +19,11 @@ pub returns : goal.returns
 returns g c =
     let means = g.S.System.meaning in
     let s = c.args.system.now in
-    let e = c.in-ok-verdict.ensures in
-    let j = c.in-ok-verdict.field-0 in
-    let kept_of = c.without-run.ensures in
-    let was : (w : TaskVerdict) → c.without-run.result ≡ w → j.verdict ≡ restored s w = λ w h. known s j.verdict w (λ f is. (e.shown_late f is).of_system) (sym kept_of ∙ h) in
-    let shows : outcome_of c.without-run.result ≡ of_systems.outcome_of j.verdict = ap outcome_of kept_of ∙ same_outcome j.verdict in
+    let e = c.in_ok-verdict.ensures in
+    let j = c.in_ok-verdict.field-0 in
+    let kept_of = c.without_run.ensures in
+    let was : (w : TaskVerdict) → c.without_run.result ≡ w → j.verdict ≡ restored s w = λ w h. known s j.verdict w (λ f is. (e.shown_late f is).of_system) (sym kept_of ∙ h) in
+    let shows : outcome_of c.without_run.result ≡ of_systems.outcome_of j.verdict = ap outcome_of kept_of ∙ same_outcome j.verdict in
     record {
       told = record {
         never_late = λ h. states_never_late means s (e.never_late (was Schedulable h));
@@ -45,6 +45,6 @@ returns g c =
         every_visit_tells = e.every_visit_tells;
         antichain = e.antichain;
       };
-      too_large = λ large. let left = e.too_large large in (refused_whole j c.without-run.result kept_of left.0, left.1, left.2);
+      too_large = λ large. let left = e.too_large large in (refused_whole j c.without_run.result kept_of left.0, left.1, left.2);
       no_memory = tt;
     }

@@ -21,10 +21,10 @@ use Rattle.task_verdict.proofs.Missing.{late_then, never_misses}
 use Rattle.task_verdict.proofs.judging.judge_tasks.Goals as goal
 
 -- what was told of the system that was made, told of the tasks
-told_of : {P : Type 0} (picks : P → Pick) (made-policy policy : P) (Made-table table : TaskTable) (k kind : Kind) (l : Lent) (r : Result TaskJudgement AllocError) → made-policy ≡ policy → Made-table ≡ table → kind ≡ k → Judged (meaning (picks made-policy) k (tasks_of Made-table)) l r → Judged (meaning (picks policy) kind (tasks_of table)) l r
-told_of picks made-policy policy Made-table table k kind l r p t is h =
-    let same : meaning (picks made-policy) k (tasks_of Made-table) ≡ meaning (picks policy) kind (tasks_of table) =
-    ap (λ q. meaning (picks q) k (tasks_of Made-table)) p ∙ ap (λ q. meaning (picks policy) k (tasks_of q)) t ∙ ap (λ q. meaning (picks policy) q (tasks_of table)) (sym is) in
+told_of : {P : Type 0} (picks : P → Pick) (made_policy policy : P) (made_table table : TaskTable) (k kind : Kind) (l : Lent) (r : Result TaskJudgement AllocError) → made_policy ≡ policy → made_table ≡ table → kind ≡ k → Judged (meaning (picks made_policy) k (tasks_of made_table)) l r → Judged (meaning (picks policy) kind (tasks_of table)) l r
+told_of picks made_policy policy made_table table k kind l r p t is h =
+    let same : meaning (picks made_policy) k (tasks_of made_table) ≡ meaning (picks policy) kind (tasks_of table) =
+    ap (λ q. meaning (picks q) k (tasks_of made_table)) p ∙ ap (λ q. meaning (picks policy) k (tasks_of q)) t ∙ ap (λ q. meaning (picks policy) q (tasks_of table)) (sym is) in
     subst (λ (M : Meaning State). Judged M l r) same h
 
 module _ (pick : Pick) (kept : Lawful pick) (kind : Kind) (table : TaskTable) (l : Lent) (r : Result TaskJudgement AllocError) (h : Judged (meaning pick kind (tasks_of table)) l r) where
@@ -44,11 +44,11 @@ returns-in-Sporadic g c =
     let p = c.args.policy in
     let table = c.args.table.now in
     let lawful : Lawful (picks p) = record { ready = g.met.P.Policy.ready p; blind = g.met.P.Policy.blind p } in
-    let h = told_of picks c.new-system.result.policy p c.new-system.result.table table _ c.args.kind _ c.judge-system.result c.new-system.ensures.policy c.new-system.ensures.table c.in-Sporadic.is c.judge-system.ensures in
+    let h = told_of picks c.new-system.result.policy p c.new-system.result.table table _ c.args.kind _ c.judge_system.result c.new-system.ensures.policy c.new-system.ensures.table c.in-Sporadic.is c.judge_system.ensures in
     record {
       judged = h;
-      never_misses = none_late (picks p) lawful c.args.kind table _ c.judge-system.result h;
-      misses = one_late (picks p) lawful c.args.kind table _ c.judge-system.result h;
+      never_misses = none_late (picks p) lawful c.args.kind table _ c.judge_system.result h;
+      misses = one_late (picks p) lawful c.args.kind table _ c.judge_system.result h;
     }
 
 pub returns-in-Periodic : goal.returns-in-Periodic
@@ -58,10 +58,10 @@ returns-in-Periodic g c =
     let table = c.args.table.now in
     let lawful : Lawful (picks p) = record { ready = g.met.P.Policy.ready p; blind = g.met.P.Policy.blind p } in
     let new = c.new-system-in-Periodic in
-    let Made-so = c.judge-system-in-Periodic in
-    let h = told_of picks new.result.policy p new.result.table table _ c.args.kind _ Made-so.result new.ensures.policy new.ensures.table c.in-Periodic.is Made-so.ensures in
+    let made = c.judge_system-in-Periodic in
+    let h = told_of picks new.result.policy p new.result.table table _ c.args.kind _ made.result new.ensures.policy new.ensures.table c.in-Periodic.is made.ensures in
     record {
       judged = h;
-      never_misses = none_late (picks p) lawful c.args.kind table _ Made-so.result h;
-      misses = one_late (picks p) lawful c.args.kind table _ Made-so.result h;
+      never_misses = none_late (picks p) lawful c.args.kind table _ made.result h;
+      misses = one_late (picks p) lawful c.args.kind table _ made.result h;
     }
