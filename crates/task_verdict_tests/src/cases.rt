@@ -95,14 +95,14 @@ fn ends_so(rt: &impl Abort, heap: Global, case: &str) -> Result<(), Fail> {
     let table = table_of(heap, rows)?;
     let judgement = judged(heap, &table, question(words)?)?;
     let text = told(heap, &table, &judgement)?;
-    assert_eq!(rt; text.as_str(), wanted);
+    assert_eq!(rt; text.as_str(), wanted, "{}", case);
     Ok(())
 }
 
 // Judges every case of the text, and compares the verdicts.
 pub(crate) fn end_so(rt: &impl Abort, heap: Global, cases: &str) -> Result<(), Fail> {
     for case in cases.lines() {
-        ends_so(rt, heap, case).note(case)?;
+        ends_so(rt, heap, case)?;
     }
     Ok(())
 }
