@@ -1,9 +1,9 @@
-use Rattle.std.proofs.Common.{◌≡◌, ◌++◌, vec_items, sym, ap, ◌∙◌, append-nil, arith}
+use Rattle.std.proofs.Common.{◌++◌, vec_items, sym, ap, ◌∙◌, append-nil, arith}
 use Rattle.std.proofs.lemmas.List.{at_drop_all}
 use Rattle.task_runs.specs.Ticking.{ticks}
 use Rattle.task_runs.proofs.Ticked.{tick_more, other_more}
 use Rattle.task_runs.proofs.ticking.list_ticks.Goals as goal
-use Rattle.task_runs.proofs.ticking.list_ticks.Goals.{then-is-tick+in-ok-push, else-is-tick}
+use Rattle.task_runs.proofs.ticking.list_ticks.Goals.{then-is_tick+in_ok-push, else-is_tick}
 
 pub loop-step-preserved : goal.loop-step-preserved
 loop-step-preserved g c =
@@ -11,9 +11,9 @@ loop-step-preserved g c =
     let ts = c.args.tasks.now in
     let x = c.loop-step.before in
     let s = c.step-item.result in
-    elim c.if-is-tick.branch [
-      | then-is-tick+in-ok-push w ↦ tick_more pick ts x c.args.steps.now c.loop-step.step-index s c.step-item.is (omega arith) (vec_items c.loop-step.listed) _ c.loop-step.invariant _ w.pick-ran.result w.if-is-tick.ensures w.pick-ran.ensures.picks (ap vec_items w.listed-is ∙ w.in-ok-push.ensures.items)
-      | else-is-tick w ↦ other_more pick ts x c.args.steps.now c.loop-step.step-index s c.step-item.is (omega arith) (vec_items c.loop-step.listed) _ c.loop-step.invariant _ w.if-is-tick.ensures (ap vec_items w.listed-is)
+    elim c.if-is_tick.branch [
+      | then-is_tick+in_ok-push w ↦ tick_more pick ts x c.args.steps.now c.loop-step.step-index s c.step-item.is (omega arith) (vec_items c.loop-step.listed) _ c.loop-step.invariant _ w.pick-ran.result w.if-is_tick.ensures w.pick-ran.ensures.picks (ap vec_items w.listed-is ∙ w.in_ok-push.ensures.items)
+      | else-is_tick w ↦ other_more pick ts x c.args.steps.now c.loop-step.step-index s c.step-item.is (omega arith) (vec_items c.loop-step.listed) _ c.loop-step.invariant _ w.if-is_tick.ensures (ap vec_items w.listed-is)
     ]
 
 pub returns : goal.returns
