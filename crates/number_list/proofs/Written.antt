@@ -1,11 +1,11 @@
 -- The list that is read is the one that is written.
-use Rattle.std.proofs.Common.{◌≡◌, ℕ, suc, ◌<◌, Bool, true, false, cond, ◌&&◌, eqb, leb, List, [], ◌∷◌, ◌++◌, map, length, Some, None, Option, sym, refl, ap, ◌∙◌, arith}
+use Rattle.std.proofs.Common.{◌≡◌, ℕ, ◌<◌, Bool, true, false, cond, ◌&&◌, eqb, leb, List, [], ◌∷◌, ◌++◌, map, length, Some, None, Option, sym, refl, ap, ◌∙◌, arith}
 use Rattle.std.specs.List.{join_with_byte}
 use Rattle.std.proofs.lemmas.List.{append-nil, append_assoc}
 use Rattle.std.proofs.lemmas.Bool.{and_parts, eqb-true}
 use Rattle.std.proofs.lemmas.Bool.Decides.{nat_tests}
 use Rattle.table_text.specs.Figures.{byte_value, all_digits, is_digit, numeral}
-use Rattle.table_text.specs.Pieces.{pieces, longer_by, filled, separates}
+use Rattle.table_text.specs.Pieces.{longer_by, filled}
 use Rattle.number_list.specs.Lists.{commas, then, with_pieces, listed, Written}
 
 -- pieces put together again
