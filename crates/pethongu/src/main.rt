@@ -17,7 +17,8 @@ use command_table::print_table;
 use command_words::command::Command;
 use command_words::words::read_words;
 use misuse::tell_misuse;
-use std::env;
+use std::process::ExitCode;
+use std::{env, io};
 use trouble::Trouble;
 use usage::USAGE;
 
@@ -67,12 +68,20 @@ fn run(rt: &HostRuntime) -> Result<(), Trouble> {
     perform(rt, &words)
 }
 
-fn main(rt: HostRuntime) -> Result<(), Trouble> {
-    let done = run(&rt);
-    match &done {
-        Err(Trouble::Outside(e)) => eprintln!(rt; "pethongu: {e}")?,
-        Err(Trouble::NoMemory) => eprintln!(rt; "pethongu: there is no memory left")?,
-        Err(Trouble::Told) | Ok(()) => {}
+fn tell_trouble(rt: &HostRuntime, trouble: &Trouble) -> io::Result<()> {
+    match trouble {
+        Trouble::Outside(e) => eprintln!(rt; "pethongu: {e}"),
+        Trouble::NoMemory => eprintln!(rt; "pethongu: there is no memory left"),
+        Trouble::Told => Ok(()),
     }
-    done
+}
+
+fn main(rt: HostRuntime) -> ExitCode {
+    match run(&rt) {
+        Ok(()) => ExitCode::SUCCESS,
+        // Where even the message finds no way out, the status still tells.
+        Err(trouble) => match tell_trouble(&rt, &trouble) {
+            Ok(()) | Err(_) => ExitCode::FAILURE,
+        },
+    }
 }
