@@ -65,14 +65,14 @@ fn ends_so(rt: &impl Abort, heap: Global, line: &str) -> Result<(), Fail> {
     let nodes = number(&mut words)?;
     let visits = number(&mut words)?;
     let finding = found(heap, &lock, nodes, visits)?;
-    assert_eq!(rt; finding, wanted(&mut words)?);
+    assert_eq!(rt; finding, wanted(&mut words)?, "{line}");
     Ok(())
 }
 
 #[test]
 fn locks_end_so(rt: HostRuntime) -> Result<(), Fail> {
     for line in ENDS.lines() {
-        ends_so(&rt, rt.alloc(), line).note(line)?;
+        ends_so(&rt, rt.alloc(), line)?;
     }
     Ok(())
 }

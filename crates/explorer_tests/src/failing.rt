@@ -9,17 +9,17 @@ use tracing::trace;
 use transition::{Run, System};
 
 // Makes the events, each of which must be accepted.
-fn make(rt: &impl Abort, run: &mut Run<Lock>, events: &[u8]) {
+fn make(rt: &impl Abort, figures: &str, run: &mut Run<Lock>, events: &[u8]) {
     for event in events {
-        assert_eq!(rt; run.call(*event), 0);
+        assert_eq!(rt; run.call(*event), 0, "{figures}");
     }
 }
 
 // Makes the forced events until there is none, and answers how many there were.
-fn make_forced(rt: &impl Abort, run: &mut Run<Lock>) -> Result<u16, Fail> {
+fn make_forced(rt: &impl Abort, figures: &str, run: &mut Run<Lock>) -> Result<u16, Fail> {
     for made in 0..1152 {
         match run.forced() {
-            Ok(event) => assert_eq!(rt; run.call(event), 0),
+            Ok(event) => assert_eq!(rt; run.call(event), 0, "{figures}"),
             Err(_) => return Ok(made),
         }
     }
@@ -30,6 +30,7 @@ fn make_forced(rt: &impl Abort, run: &mut Run<Lock>) -> Result<u16, Fail> {
 fn fails_so(
     rt: &impl Abort,
     heap: Global,
+    figures: &str,
     lock: Lock,
     events: usize,
     forced: u16,
@@ -37,22 +38,22 @@ fn fails_so(
     let mut nodes = lent_nodes(heap, 64)?;
     let mut visits = lent_visits(heap, 128)?;
     let finding = check_lock(&lock, &mut nodes, &mut visits);
-    assert_eq!(rt; finding.verdict, Verdict::Unsafe);
+    assert_eq!(rt; finding.verdict, Verdict::Unsafe, "{figures}");
     let mut list = [0; 128];
     let count = trace(&visits, finding.visits, &mut list)?;
-    assert_eq!(rt; count, events);
-    assert!(rt; count <= 128);
+    assert_eq!(rt; count, events, "{figures}");
+    assert!(rt; count <= 128, "{figures}");
     let mut run = Run::new(lock);
-    make(rt, &mut run, &list[0..count]);
-    assert!(rt; run.is_doomed());
-    assert_eq!(rt; make_forced(rt, &mut run)?, forced);
-    assert!(rt; run.is_late());
+    make(rt, figures, &mut run, &list[0..count]);
+    assert!(rt; run.is_doomed(), "{figures}");
+    assert_eq!(rt; make_forced(rt, figures, &mut run)?, forced, "{figures}");
+    assert!(rt; run.is_late(), "{figures}");
     Ok(())
 }
 
 #[test]
 fn unsafe_locks_fail_so(rt: HostRuntime) -> Result<(), Fail> {
-    fails_so(&rt, rt.alloc(), Lock::new(5, 5, 4), 25, 4).note("5 5 4")?;
-    fails_so(&rt, rt.alloc(), Lock::new(5, 2, 4), 4, 4).note("5 2 4")?;
-    fails_so(&rt, rt.alloc(), Lock::new(0, 0, 0), 1, 0).note("0 0 0")
+    fails_so(&rt, rt.alloc(), "5 5 4", Lock::new(5, 5, 4), 25, 4)?;
+    fails_so(&rt, rt.alloc(), "5 2 4", Lock::new(5, 2, 4), 4, 4)?;
+    fails_so(&rt, rt.alloc(), "0 0 0", Lock::new(0, 0, 0), 1, 0)
 }

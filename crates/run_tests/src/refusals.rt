@@ -45,8 +45,8 @@ const RUN: &str = "9 4 16
 fn answers_so(rt: &impl Abort, run: &mut Run<Lock>, line: &str) -> Result<(), Fail> {
     let mut words = line.split_whitespace();
     let answer = run.call(byte(&mut words)?);
-    assert_eq!(rt; answer, byte(&mut words)?);
-    assert_eq!(rt; forced_told(run.forced()), byte(&mut words)?);
+    assert_eq!(rt; answer, byte(&mut words)?, "{line}");
+    assert_eq!(rt; forced_told(run.forced()), byte(&mut words)?, "{line}");
     Ok(())
 }
 
@@ -54,7 +54,7 @@ fn answers_so(rt: &impl Abort, run: &mut Run<Lock>, line: &str) -> Result<(), Fa
 fn run_answers_so(rt: HostRuntime) -> Result<(), Fail> {
     let mut run = Run::new(Lock::new(5, 2, 4));
     for line in RUN.lines() {
-        answers_so(&rt, &mut run, line).note(line)?;
+        answers_so(&rt, &mut run, line)?;
     }
     Ok(())
 }
@@ -77,8 +77,16 @@ fn refuses_so(rt: &impl Abort, lock: &Lock, line: &str) -> Result<(), Fail> {
     let mut words = line.split_whitespace();
     let state = chamber(&mut words)?;
     let event = byte(&mut words)?;
-    assert_eq!(rt; next_told(lock.next(&state, event)), byte(&mut words)?);
-    assert_eq!(rt; forced_told(lock.forced_event(&state)), byte(&mut words)?);
+    assert_eq!(rt;
+        next_told(lock.next(&state, event)),
+        byte(&mut words)?,
+        "{line}"
+    );
+    assert_eq!(rt;
+        forced_told(lock.forced_event(&state)),
+        byte(&mut words)?,
+        "{line}"
+    );
     Ok(())
 }
 
@@ -86,7 +94,7 @@ fn refuses_so(rt: &impl Abort, lock: &Lock, line: &str) -> Result<(), Fail> {
 fn lock_refuses_in_order(rt: HostRuntime) -> Result<(), Fail> {
     let lock = Lock::new(5, 2, 4);
     for line in CHAMBERS.lines() {
-        refuses_so(&rt, &lock, line).note(line)?;
+        refuses_so(&rt, &lock, line)?;
     }
     Ok(())
 }

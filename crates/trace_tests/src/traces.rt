@@ -72,6 +72,7 @@ fn told(answer: Result<usize, TraceRefusal>) -> usize {
 fn answers_so(
     rt: &impl Abort,
     heap: Global,
+    line: &str,
     asked: &str,
     left: &[u8],
     visits: &[Visit],
@@ -80,8 +81,8 @@ fn answers_so(
     let asked = number(&mut words)?;
     let answer = number(&mut words)?;
     let mut list = vec![in heap; UNUSED; left.len()]?;
-    assert_eq!(rt; told(trace(visits, asked, &mut list)), answer);
-    assert_eq!(rt; list.as_slice(), left);
+    assert_eq!(rt; told(trace(visits, asked, &mut list)), answer, "{line}");
+    assert_eq!(rt; list.as_slice(), left, "{line}");
     Ok(())
 }
 
@@ -91,13 +92,13 @@ fn traces_so(rt: &impl Abort, heap: Global, line: &str) -> Result<(), Fail> {
     let (left, visits) = rest.split_once(':').ok_or("no visits")?;
     let left = list_of(heap, left)?;
     let visits = visits_of(heap, visits)?;
-    answers_so(rt, heap, asked, &left, &visits)
+    answers_so(rt, heap, line, asked, &left, &visits)
 }
 
 #[test]
 fn visits_are_traced_so(rt: HostRuntime) -> Result<(), Fail> {
     for line in TRACES.lines() {
-        traces_so(&rt, rt.alloc(), line).note(line)?;
+        traces_so(&rt, rt.alloc(), line)?;
     }
     Ok(())
 }

@@ -26,6 +26,7 @@ fn judged(heap: Global, lock: &Lock) -> Result<Judgement<Lock>, Fail> {
 fn fails_so(
     rt: &impl Abort,
     heap: Global,
+    figures: &str,
     lock: Lock,
     events: usize,
     forced: usize,
@@ -33,14 +34,14 @@ fn fails_so(
     let judgement = judged(heap, &lock)?;
     match judgement.verdict {
         Verdict::Unschedulable(failure) => {
-            assert_eq!(rt; failure.events.len(), events);
-            assert_eq!(rt; failure.forced.len(), forced);
-            assert!(rt; failure.run.is_late());
+            assert_eq!(rt; failure.events.len(), events, "{figures}");
+            assert_eq!(rt; failure.forced.len(), forced, "{figures}");
+            assert!(rt; failure.run.is_late(), "{figures}");
             let mut calls = failure.events.clone()?;
             calls.extend_from_slice(&failure.forced)?;
-            assert!(rt; run_after(lock, &calls).is_late());
-            assert!(rt; is_ever_late(lock, &calls));
-            assert!(rt; !is_ever_late(lock, &failure.events) || forced == 0);
+            assert!(rt; run_after(lock, &calls).is_late(), "{figures}");
+            assert!(rt; is_ever_late(lock, &calls), "{figures}");
+            assert!(rt; !is_ever_late(lock, &failure.events) || forced == 0, "{figures}");
             Ok(())
         }
         _ => Err(Fail::new("not unschedulable")),
@@ -49,9 +50,9 @@ fn fails_so(
 
 #[test]
 fn locks_fail_so(rt: HostRuntime) -> Result<(), Fail> {
-    fails_so(&rt, rt.alloc(), Lock::new(5, 5, 4), 25, 4).note("5 5 4")?;
-    fails_so(&rt, rt.alloc(), Lock::new(5, 2, 4), 4, 4).note("5 2 4")?;
-    fails_so(&rt, rt.alloc(), Lock::new(0, 0, 0), 1, 0).note("0 0 0")
+    fails_so(&rt, rt.alloc(), "5 5 4", Lock::new(5, 5, 4), 25, 4)?;
+    fails_so(&rt, rt.alloc(), "5 2 4", Lock::new(5, 2, 4), 4, 4)?;
+    fails_so(&rt, rt.alloc(), "0 0 0", Lock::new(0, 0, 0), 1, 0)
 }
 
 #[test]
