@@ -41,7 +41,10 @@ fn fails_so(
             calls.extend_from_slice(&failure.forced)?;
             assert!(rt; run_after(lock, &calls).is_late(), "{figures}");
             assert!(rt; is_ever_late(lock, &calls), "{figures}");
-            assert!(rt; !is_ever_late(lock, &failure.events) || forced == 0, "{figures}");
+            assert!(rt;
+                !is_ever_late(lock, &failure.events) || forced == 0,
+                "{figures}"
+            );
             Ok(())
         }
         _ => Err(Fail::new("not unschedulable")),
