@@ -1,5 +1,5 @@
 -- One word after another is taken up, until one is refused.
-use Rattle.std.proofs.Common.{◌≡◌, ℕ, ◌+◌, ◌<◌, List, [], map, length, get_or, drop, Some, None, Ok, Err, Option, Result, sym, ap, ◌∙◌, Bor}
+use Rattle.std.proofs.Common.{◌≡◌, ℕ, ◌+◌, ◌<◌, List, [], map, length, get_or, drop, Some, None, Ok, Option, Result, sym, ap, ◌∙◌, Bor}
 use Rattle.std.proofs.lemmas.List.{at_drop_more}
 use Rattle.command_reading.specs.declared.verb.Verb.{Verb}
 use Rattle.command_reading.specs.Misuses.{Wrong, Refuses, then}
