@@ -1,7 +1,7 @@
 -- What each end of exploring says.
 use Rattle.std.proofs.Common.{◌≡◌, ℕ, suc, ◌≤◌, true, false, not, ◌⊎◌, List, [], ◌∷◌, ◌++◌, length, inl, inr, arith}
 use lib.ListN.{length-map}
-use Rattle.std.specs.List.{AllByRecursion as All}
+use Rattle.std.specs.List.{AllByRecursion}
 use Rattle.std.proofs.ByRecursion.{All-push, All-weaker, All-map}
 use Rattle.std.proofs.lemmas.List.{length_push}
 use Rattle.transition.specs.Meanings.{Meaning}
@@ -20,7 +20,7 @@ use Rattle.exploration.proofs.Enters.{Entered, known, visits_full, found_doomed,
 use Rattle.exploration.proofs.Invariant.{Apart, Differ, ByVisit, History, Kept, Inv, unlike, noted_history, noted_kept, cleared_kept, added_apart, added_by_visit, keeps}
 
 module _ {X : Type 0} (M : Meaning X) where
-  history_reached : (vs : List Visit) (xs : List X) → History M vs xs → All (Reached M) xs
+  history_reached : (vs : List Visit) (xs : List X) → History M vs xs → AllByRecursion (Reached M) xs
   history_reached vs xs H = all_numbered (Reached M) xs (λ k x a. led_reached M vs k x (H.led k x a))
 
   pub every_visit : Laws M → (s : Store X) → History M s.visits s.entered → EveryVisitTells M s

@@ -1,6 +1,6 @@
 -- The invariant of exploring, and how a state that is entered keeps it.
 use Rattle.std.proofs.Common.{◌≡◌, ℕ, suc, ◌<◌, ◌≤◌, Bool, true, false, not, ◌⊎◌, List, [], ◌∷◌, ◌++◌, length, Some, Ok, inl, inr, arith}
-use Rattle.std.specs.List.{AllByRecursion as All}
+use Rattle.std.specs.List.{AllByRecursion}
 use Rattle.std.proofs.ByRecursion.{All-push, all_kept_by, All-weaker, kept_by_passes}
 use Rattle.std.proofs.lemmas.Bool.{not-true, true≢false, false≢true}
 use Rattle.std.proofs.lemmas.List.{length_push}
@@ -41,11 +41,11 @@ module _ {X : Type 0} (M : Meaning X) where
   -- the nodes: kept apart, none doomed, each by a visit
   pub record Kept (xs : List X) (ns : List (Node X)) : Type 0 where
     pub apart : Pairwise (λ n m. Apart n.state m.state) ns
-    pub safe : All (λ n. M.doomed n.state ≡ false) ns
-    pub by_visit : All (ByVisit xs) ns
+    pub safe : AllByRecursion (λ n. M.doomed n.state ≡ false) ns
+    pub by_visit : AllByRecursion (ByVisit xs) ns
 
   module _ (W : Laws M) (p e : ℕ) (r : X) (vs : List Visit) (xs : List X) (H : History vs xs) (from : Comes M vs p e r) where
-    history_more : All (λ x. Differ x r) xs → History (vs ++ visit p e ∷ []) (xs ++ r ∷ [])
+    history_more : AllByRecursion (λ x. Differ x r) xs → History (vs ++ visit p e ∷ []) (xs ++ r ∷ [])
     history_more d = record {
       as_many = omega (arith, length_push xs r, length_push vs (visit p e), H.as_many);
       led = λ k x a. elim (numbered_push_cases xs r k x a) [
@@ -55,7 +55,7 @@ module _ {X : Type 0} (M : Meaning X) where
       differ = pairwise_push Differ xs r H.differ d;
     }
 
-  by_visit_more : (xs : List X) (r : X) (ns : List (Node X)) → All (ByVisit xs) ns → All (ByVisit (xs ++ r ∷ [])) ns
+  by_visit_more : (xs : List X) (r : X) (ns : List (Node X)) → AllByRecursion (ByVisit xs) ns → AllByRecursion (ByVisit (xs ++ r ∷ [])) ns
   by_visit_more xs r ns h = All-weaker (ByVisit xs) (ByVisit (xs ++ r ∷ [])) (λ n a. numbered_more xs (r ∷ []) n.visit n.state a) ns h
 
 module _ {X : Type 0} (M : Meaning X) (P L : ℕ) where
@@ -63,8 +63,8 @@ module _ {X : Type 0} (M : Meaning X) (P L : ℕ) where
   pub record Inv (Owed : X → ℕ → Type 0) (Root : X → Type 0) (s : Store X) : Type 0 where
     pub history : History M s.visits s.entered
     pub kept_nodes : Kept M s.entered s.nodes
-    pub passed : All (λ x. simulated M (states s.nodes) x ≡ true) s.entered
-    pub followed : All (Followed M Owed s.nodes) s.nodes
+    pub passed : AllByRecursion (λ x. simulated M (states s.nodes) x ≡ true) s.entered
+    pub followed : AllByRecursion (Followed M Owed s.nodes) s.nodes
     pub rooted : (x : X) → Root x → simulated M (states s.nodes) x ≡ true
     pub few_nodes : length s.nodes ≤ P
     pub few_visits : length s.visits ≤ L
@@ -74,7 +74,7 @@ module _ {X : Type 0} (M : Meaning X) (P L : ℕ) where
     added = keeping r (cleared M r (noted p e r s))
 
     -- r is none of the states entered before
-    pub unlike : All (λ x. Differ M x r) s.entered
+    pub unlike : AllByRecursion (λ x. Differ M x r) s.entered
     unlike = All-weaker (λ x. simulated M (states s.nodes) x ≡ true) (λ x. Differ M x r) (λ x h. (λ q. let z : true ≡ false = cc in true≢false z, λ q. let z : true ≡ false = cc in true≢false z)) s.entered I.passed
 
     pub noted_history : History M (noted p e r s).visits (noted p e r s).entered
@@ -105,12 +105,12 @@ module _ {X : Type 0} (M : Meaning X) (P L : ℕ) where
         (all_kept_by test _ s.nodes (simulated_none M s.nodes r fresh))
         (All-weaker (λ n. test n ≡ true) (λ n. M.simulates r n.state ≡ false) (λ n h. not-true _ h) others (kept_by_passes test s.nodes)))
 
-    pub added_by_visit : All (ByVisit M added.entered) added.nodes
+    pub added_by_visit : AllByRecursion (ByVisit M added.entered) added.nodes
     added_by_visit =
         let q : length (noted p e r s).visits ≡ suc (length s.entered) = omega (arith, length_push s.visits (visit p e), I.history.as_many) in
         All-push _ (without M r s.nodes) _ cleared_kept.by_visit (rw q (numbered_push s.entered r))
 
-    added_followed : All (Followed M Owed added.nodes) added.nodes
+    added_followed : AllByRecursion (Followed M Owed added.nodes) added.nodes
     added_followed =
         let others : List (Node X) = without M r s.nodes in
         All-push _ others _

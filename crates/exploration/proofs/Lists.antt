@@ -1,6 +1,6 @@
 -- Lists: the element of a number, and what holds between any two elements.
 use Rattle.std.proofs.Common.{◌≡◌, ℕ, zero, suc, ◌-◌, ◌<◌, ◌≤◌, Bool, not, ◌⊎◌, List, [], ◌∷◌, ◌++◌, map, length, get_or, Some, None, filter, Option, refl, ap, inl, inr, sub-one, arith}
-use Rattle.std.specs.List.{slice_get, AllByRecursion as All}
+use Rattle.std.specs.List.{slice_get, AllByRecursion}
 use Rattle.std.proofs.ByRecursion.{All-push, all_kept_by, All-map}
 use Rattle.std.proofs.lemmas.List.Filters.{length-filter_both}
 use Rattle.std.proofs.lemmas.Option.{slice_get-get_or}
@@ -52,7 +52,7 @@ pub numbered_within : {X : Type 0} (xs : List X) (k : ℕ) (a : X) → numbered 
 numbered_within xs zero a e = none_some None a refl e
 numbered_within xs (suc i) a e = let h = nth_within xs i a e in (omega arith, omega arith)
 
-pub all_numbered : {X : Type 0} (Q : X → Type 0) (xs : List X) → ((k : ℕ) (a : X) → numbered xs k ≡ Some a → Q a) → All Q xs
+pub all_numbered : {X : Type 0} (Q : X → Type 0) (xs : List X) → ((k : ℕ) (a : X) → numbered xs k ≡ Some a → Q a) → AllByRecursion Q xs
 all_numbered Q [] f = tt
 all_numbered Q (x ∷ xs) f = (f 1 x refl, all_numbered Q xs (λ k. behind_first k))
   where
@@ -60,21 +60,21 @@ all_numbered Q (x ∷ xs) f = (f 1 x refl, all_numbered Q xs (λ k. behind_first
     behind_first zero a e = none_some None a refl e
     behind_first (suc i) a e = f (suc (suc i)) a e
 
-pub all_nth : {X : Type 0} (Q : X → Type 0) (xs : List X) → All Q xs → (i : ℕ) (a : X) → slice_get xs i ≡ Some a → Q a
+pub all_nth : {X : Type 0} (Q : X → Type 0) (xs : List X) → AllByRecursion Q xs → (i : ℕ) (a : X) → slice_get xs i ≡ Some a → Q a
 all_nth Q [] h i a e = none_some None a refl e
 all_nth Q (x ∷ xs) h zero a e = let k : x ≡ a = cc in rw (← k) h.0
 all_nth Q (x ∷ xs) h (suc i) a e = all_nth Q xs h.1 i a e
 
-pub all_both : {X : Type 0} (Q R : X → Type 0) (xs : List X) → All Q xs → All R xs → All (λ x. Q x × R x) xs
+pub all_both : {X : Type 0} (Q R : X → Type 0) (xs : List X) → AllByRecursion Q xs → AllByRecursion R xs → AllByRecursion (λ x. Q x × R x) xs
 all_both Q R [] a b = tt
 all_both Q R (x ∷ xs) a b = ((a.0, b.0), all_both Q R xs a.1 b.1)
 
 -- the relation holds from each element to every later one
 abbrev pub Pairwise : {X : Type 0} → (X → X → Type 0) → List X → Type 0
 Pairwise R [] = Unit {0}
-Pairwise R (x ∷ xs) = All (R x) xs × Pairwise R xs
+Pairwise R (x ∷ xs) = AllByRecursion (R x) xs × Pairwise R xs
 
-pub pairwise_push : {X : Type 0} (R : X → X → Type 0) (xs : List X) (y : X) → Pairwise R xs → All (λ x. R x y) xs → Pairwise R (xs ++ y ∷ [])
+pub pairwise_push : {X : Type 0} (R : X → X → Type 0) (xs : List X) (y : X) → Pairwise R xs → AllByRecursion (λ x. R x y) xs → Pairwise R (xs ++ y ∷ [])
 pairwise_push R [] y h k = (tt, tt)
 pairwise_push R (x ∷ xs) y h k = (All-push (R x) xs y h.0 k.0, pairwise_push R xs y h.1 k.1)
 

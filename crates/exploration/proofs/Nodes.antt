@@ -1,6 +1,6 @@
 -- Nodes: what their states simulate, and the first that is not opened.
 use Rattle.std.proofs.Common.{◌≡◌, ℕ, zero, suc, ◌+◌, ◌<◌, ◌≤◌, Bool, true, false, cond, not, List, [], ◌∷◌, ◌++◌, length, get_or, set, Some, None, filter, Option, refl, ap, inl, inr, arith}
-use Rattle.std.specs.List.{AllByRecursion as All}
+use Rattle.std.specs.List.{AllByRecursion}
 use Rattle.std.proofs.ByRecursion.{All-weaker}
 use Rattle.std.proofs.lemmas.Bool.{cond_both, or_cases, or_parts, or_left, or_right, not-false, false≢true}
 use Rattle.transition.specs.Meanings.{Meaning}
@@ -12,11 +12,11 @@ use Rattle.exploration.proofs.Lists.{Pairwise}
 
 module _ {X : Type 0} (M : Meaning X) where
   -- one of the states simulates the state, with what holds of all of them
-  pub simulated_by : (xs : List X) (r : X) (Q : X → Type 0) → simulated M xs r ≡ true → All Q xs → (x : X) × (M.simulates x r ≡ true) × Q x
+  pub simulated_by : (xs : List X) (r : X) (Q : X → Type 0) → simulated M xs r ≡ true → AllByRecursion Q xs → (x : X) × (M.simulates x r ≡ true) × Q x
   simulated_by [] r Q e a = absurd (false≢true e)
   simulated_by (x ∷ xs) r Q e a = elim (or_cases (M.simulates x r) (simulated M xs r) e) [ inl h ↦ (x, h, a.0) | inr h ↦ simulated_by xs r Q h a.1 ]
 
-  pub simulated_none : (ns : List (Node X)) (r : X) → simulated M (states ns) r ≡ false → All (λ n. M.simulates n.state r ≡ false) ns
+  pub simulated_none : (ns : List (Node X)) (r : X) → simulated M (states ns) r ≡ false → AllByRecursion (λ n. M.simulates n.state r ≡ false) ns
   simulated_none [] r e = tt
   simulated_none (n ∷ ns) r e = let h = or_parts (M.simulates n.state r) (simulated M (states ns) r) e in (h.0, simulated_none ns r h.1)
 
@@ -49,7 +49,7 @@ pub data Found {X : Type 0} : List (Node X) → Node X → List (Node X) → Typ
 
 -- the two ways to look for it
 pub data Finds {X : Type 0} (ns : List (Node X)) : Option (Node X × List (Node X)) → Type 0 where
-  all_opened : All (λ n. n.opened ≡ true) ns → Finds ns None
+  all_opened : AllByRecursion (λ n. n.opened ≡ true) ns → Finds ns None
   found : {n : Node X} {os : List (Node X)} → Found ns n os → Finds ns (Some (n, os))
 
 finds_behind : {X : Type 0} (n : Node X) (ns : List (Node X)) {o : Option (Node X × List (Node X))} → n.opened ≡ true → Finds ns o → Finds (n ∷ ns) (behind n o)
@@ -61,11 +61,11 @@ unfolding first_unopened
 finds [] = all_opened tt
 finds (n ∷ ns) = cond_both n.opened (behind n (first_unopened ns)) (Some (n, opening n ∷ ns)) (Finds (n ∷ ns)) (λ e. finds_behind n ns e (finds ns)) (λ e. found (here e))
 
-pub found_all : {X : Type 0} (Q R : Node X → Type 0) {n : Node X} {ns os : List (Node X)} → Found ns n os → ((m : Node X) → Q m → R m) → (Q n → R (opening n)) → All Q ns → All R os
+pub found_all : {X : Type 0} (Q R : Node X → Type 0) {n : Node X} {ns os : List (Node X)} → Found ns n os → ((m : Node X) → Q m → R m) → (Q n → R (opening n)) → AllByRecursion Q ns → AllByRecursion R os
 found_all Q R (here {ns = ns} e) f g a = (g a.0, All-weaker Q R f ns a.1)
 found_all Q R (later {m = m} e k) f g a = (f m a.0, found_all Q R k f g a.1)
 
-pub found_one : {X : Type 0} (Q : Node X → Type 0) {n : Node X} {ns os : List (Node X)} → Found ns n os → All Q ns → Q n
+pub found_one : {X : Type 0} (Q : Node X → Type 0) {n : Node X} {ns os : List (Node X)} → Found ns n os → AllByRecursion Q ns → Q n
 found_one Q (here e) a = a.0
 found_one Q (later e k) a = found_one Q k a.1
 

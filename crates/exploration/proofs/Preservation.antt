@@ -1,6 +1,6 @@
 -- Exploring keeps its invariant until it ends.
 use Rattle.std.proofs.Common.{◌≡◌, ℕ, zero, suc, ◌+◌, ◌≤◌, true, false, ◌⊎◌, List, [], Ok, Err, Option, Result, refl, subst, inl, inr, arith}
-use Rattle.std.specs.List.{AllByRecursion as All}
+use Rattle.std.specs.List.{AllByRecursion}
 use Rattle.std.proofs.ByRecursion.{All-weaker, All-map}
 use Rattle.std.proofs.lemmas.Bool.{cases_lt}
 use Rattle.transition.specs.declared.refusal.Refusal.{Refusal}
@@ -100,7 +100,7 @@ module _ {X : Type 0} (M : Meaning X) (P L : ℕ) where
     abbrev First : X → Type 0
     First y = y ≡ M.first
 
-    closed : (s : Store X) → Inv M P L NothingOwed First s → All (λ n. n.opened ≡ true) s.nodes → Closed M (states s.nodes)
+    closed : (s : Store X) → Inv M P L NothingOwed First s → AllByRecursion (λ n. n.opened ≡ true) s.nodes → Closed M (states s.nodes)
     closed s I done = record {
       holds_first = I.rooted M.first refl;
       holds_next = All-map _ (λ n. n.state) s.nodes (All-weaker _ _ (λ n h e y q. elim (h.1 h.0 e y q) [ inl k ↦ k | inr k ↦ absurd k ]) s.nodes (all_both _ _ s.nodes done I.followed));

@@ -1,6 +1,6 @@
 -- What closed states show, and that no system is both never late and ever late.
 use Rattle.std.proofs.Common.{◌≡◌, ℕ, Bool, true, false, List, [], ◌∷◌, Some, Ok, Err, Result, refl}
-use Rattle.std.specs.List.{AllByRecursion as All}
+use Rattle.std.specs.List.{AllByRecursion}
 use Rattle.std.proofs.lemmas.Bool.{both_ways}
 use Rattle.transition.specs.declared.refusal.Refusal.{Refusal}
 use Rattle.transition.specs.Meanings.{Meaning}
@@ -25,7 +25,7 @@ module _ {X : Type 0} (M : Meaning X) (W : Laws M) (xs : List X) (C : Closed M x
       let b = simulated_by M xs y _ h C.none_doomed in
       absurd (both_ways (M.doomed b.0) b.2 (W.simulates_doom b.0 y b.1 (W.late_doomed y q)))
 
-  way_safe : (es : List ℕ) (y : X) → simulated M xs y ≡ true → All (λ x. M.late x ≡ false) (way M y es)
+  way_safe : (es : List ℕ) (y : X) → simulated M xs y ≡ true → AllByRecursion (λ x. M.late x ≡ false) (way M y es)
   way_safe [] y h = (not_late y h (M.late y) refl, tt)
   way_safe (e ∷ es) y h = (not_late y h (M.late y) refl, way_safe es (after (M.gives e y) y) (after_simulated e y h (M.gives e y) refl))
 
@@ -34,7 +34,7 @@ module _ {X : Type 0} (M : Meaning X) (W : Laws M) (xs : List X) (C : Closed M x
 
 module _ {X : Type 0} (M : Meaning X) where
   -- the state that accepted events lead to is on the way
-  way_ends : (Q : X → Type 0) (es : List ℕ) (x z : X) → replay M x es ≡ Some z → All Q (way M x es) → Q z
+  way_ends : (Q : X → Type 0) (es : List ℕ) (x z : X) → replay M x es ≡ Some z → AllByRecursion Q (way M x es) → Q z
   way_ends Q [] x z a h = let k : x ≡ z = cc in rw (← k) h.0
   way_ends Q (e ∷ es) x z a h =
       let k = onward_some (M.gives e x) (λ w. replay M w es) z a in

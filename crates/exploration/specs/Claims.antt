@@ -1,6 +1,6 @@
 -- What the end of exploring tells of the system.
 use Rattle.std.specs.Prelude.{◌≡◌, ℕ, suc, ◌<◌, ◌≤◌, true, false, ◌⊎◌, List, length, Some, Ok, ◌≢◌}
-use Rattle.std.specs.List.{AllByRecursion as All}
+use Rattle.std.specs.List.{AllByRecursion}
 use Rattle.transition.specs.Meanings.{Meaning}
 use Rattle.transition.specs.Runs.{way, replay, forced_on, Reached}
 use Rattle.exploration.specs.declared.node.Visit.{Visit}
@@ -18,7 +18,7 @@ IsTooLarge P L = (most_nodes < P) ⊎ (most_visits < L)
 module _ {X : Type 0} (M : Meaning X) where
   -- whatever events are made, accepted or refused, no state on the way is late
   abbrev pub NeverLate : Type 0
-  NeverLate = (es : List ℕ) → All (λ x. M.late x ≡ false) (way M M.first es)
+  NeverLate = (es : List ℕ) → AllByRecursion (λ x. M.late x ≡ false) (way M M.first es)
 
   -- no state of the list simulates another
   abbrev pub NoneSimulates : List X → Type 0
@@ -46,31 +46,31 @@ module _ {X : Type 0} (M : Meaning X) where
 
   -- P + 1 states are reached of which none simulates another, so that P nodes do not hold them all
   abbrev pub NodesHonestlyFull : ℕ → Type 0
-  NodesHonestlyFull P = (xs : List X) × (length xs ≡ suc P) × All (Reached M) xs × NoneSimulates xs
+  NodesHonestlyFull P = (xs : List X) × (length xs ≡ suc P) × AllByRecursion (Reached M) xs × NoneSimulates xs
 
   -- L + 1 different states are reached, so that L visits do not enter them all
   abbrev pub VisitsHonestlyFull : ℕ → Type 0
-  VisitsHonestlyFull L = (xs : List X) × (length xs ≡ suc L) × All (Reached M) xs × AllDifferent xs
+  VisitsHonestlyFull L = (xs : List X) × (length xs ≡ suc L) × AllByRecursion (Reached M) xs × AllDifferent xs
 
   -- the run of each visit leads to the state that it entered, and these states are all different
   pub record EveryVisitTells (s : Store X) : Type 0 where
     pub as_many : length s.entered ≡ length s.visits
     pub leads : (k : ℕ) (x : X) → numbered s.entered k ≡ Some x → Leads s.visits k x
     pub different : AllDifferent s.entered
-    pub reached : All (Reached M) s.entered
-    pub fitting : All (λ x. M.fits x ≡ true) s.entered
+    pub reached : AllByRecursion (Reached M) s.entered
+    pub fitting : AllByRecursion (λ x. M.fits x ≡ true) s.entered
 
   -- states, none of them doomed, that simulate the first one and whatever follows any of them
   pub record Closed (xs : List X) : Type 0 where
     pub holds_first : simulated M xs M.first ≡ true
-    pub holds_next : All (λ x. (e : ℕ) (y : X) → M.gives e x ≡ Ok y → simulated M xs y ≡ true) xs
-    pub none_doomed : All (λ x. M.doomed x ≡ false) xs
-    pub fitting : All (λ x. M.fits x ≡ true) xs
+    pub holds_next : AllByRecursion (λ x. (e : ℕ) (y : X) → M.gives e x ≡ Ok y → simulated M xs y ≡ true) xs
+    pub none_doomed : AllByRecursion (λ x. M.doomed x ≡ false) xs
+    pub fitting : AllByRecursion (λ x. M.fits x ≡ true) xs
 
   -- no node simulates another, each node's visit entered its state, and all is within the memory lent
   pub record Antichain (P L : ℕ) (s : Store X) : Type 0 where
     pub none_simulates : NoneSimulates (states s.nodes)
-    pub by_visits : All (λ n. (1 ≤ n.visit) × (n.visit ≤ length s.visits) × (numbered s.entered n.visit ≡ Some n.state)) s.nodes
+    pub by_visits : AllByRecursion (λ n. (1 ≤ n.visit) × (n.visit ≤ length s.visits) × (numbered s.entered n.visit ≡ Some n.state)) s.nodes
     pub few_nodes : length s.nodes ≤ P
     pub few_visits : length s.visits ≤ L
 

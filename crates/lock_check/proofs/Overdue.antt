@@ -1,6 +1,6 @@
 -- A late chamber is one with an overdue boat.
 use Rattle.std.proofs.Common.{◌≡◌, ℕ, true, false, List, [], ◌∷◌, Ok, Err, Result, refl, ⊎_elim, arith}
-use Rattle.std.specs.List.{AllByRecursion as All}
+use Rattle.std.specs.List.{AllByRecursion}
 use Rattle.std.proofs.ByRecursion.{All-weaker}
 use Rattle.std.proofs.lemmas.Bool.{cases_Bool, both_ways}
 use Rattle.std.proofs.lemmas.Bool.Decides.{nat_tests}
@@ -31,7 +31,7 @@ module _ (l : Lock) where
   after_fits e x (Ok y) g f = (lawful l).result_fits e x y f g
   after_fits e x (Err r) g f = f
 
-  way_overdue : (es : List ℕ) (x : Chamber) → fits l x ≡ true → All (λ y. late l y ≡ false) (way (meaning l) x es) → All (λ y. Overdue l y → ⊥) (way (meaning l) x es)
+  way_overdue : (es : List ℕ) (x : Chamber) → fits l x ≡ true → AllByRecursion (λ y. late l y ≡ false) (way (meaning l) x es) → AllByRecursion (λ y. Overdue l y → ⊥) (way (meaning l) x es)
   way_overdue [] x f h = (not_overdue x f h.0, tt)
   way_overdue (e ∷ es) x f h =
       (not_overdue x f h.0, way_overdue es (after (gives l e x) x) (after_fits e x (gives l e x) refl f) h.1)

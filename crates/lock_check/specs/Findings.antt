@@ -1,6 +1,6 @@
 -- What a check of a lock tells of it: event 1 is a boat that comes, event 2 a tick.
 use Rattle.std.specs.Prelude.{◌≡◌, ℕ, suc, ◌<◌, ◌≤◌, true, false, ◌⊎◌, List, ◌++◌, length, replicate, Some, ◌≢◌}
-use Rattle.std.specs.List.{AllByRecursion as All}
+use Rattle.std.specs.List.{AllByRecursion}
 use Rattle.transition.specs.Runs.{way, replay, forced_on}
 use Rattle.exploration.specs.declared.node.Node.{Node}
 use Rattle.exploration.specs.declared.node.Visit.{Visit}
@@ -29,7 +29,7 @@ LeadTo l es x = replay (meaning l) calm es ≡ Some x
 
 -- whatever boats come and ticks pass, in any order, accepted or refused, at no moment is a boat overdue
 abbrev pub NeverOverdue : Lock → Type 0
-NeverOverdue l = (es : List ℕ) → All (λ x. Overdue l x → ⊥) (moments l es)
+NeverOverdue l = (es : List ℕ) → AllByRecursion (λ x. Overdue l x → ⊥) (moments l es)
 
 -- some boats and ticks, each accepted in its turn, lead to an overdue boat
 abbrev pub EverOverdue : Lock → Type 0
@@ -62,11 +62,11 @@ Unlike x y = x.turn ≡ y.turn → x.boat ≡ y.boat → x.wait ≢ y.wait
 
 -- more than so many chambers come about, any two of them unlike
 abbrev pub MoreUnlikeThan : Lock → ℕ → Type 0
-MoreUnlikeThan l P = (xs : List Chamber) × (length xs ≡ suc P) × All (ComesAbout l) xs × EachTwo Unlike xs
+MoreUnlikeThan l P = (xs : List Chamber) × (length xs ≡ suc P) × AllByRecursion (ComesAbout l) xs × EachTwo Unlike xs
 
 -- more than so many chambers come about, any two of them different
 abbrev pub MoreDifferentThan : Lock → ℕ → Type 0
-MoreDifferentThan l L = (xs : List Chamber) × (length xs ≡ suc L) × All (ComesAbout l) xs × EachTwo (λ x y. x ≢ y) xs
+MoreDifferentThan l L = (xs : List Chamber) × (length xs ≡ suc L) × AllByRecursion (ComesAbout l) xs × EachTwo (λ x y. x ≢ y) xs
 
 -- more than 4096 nodes or more than 65535 visits are lent
 abbrev pub IsTooMuch : ℕ → ℕ → Type 0

@@ -1,6 +1,6 @@
 -- What holds of each task with its two jobs.
 use Rattle.std.proofs.Common.{◌≡◌, ℕ, zero, suc, Bool, true, false, List, [], ◌∷◌, map, set, Some, refl, ap, ◌∙◌, subst, inl, inr, arith}
-use Rattle.std.specs.List.{slice_get, AllByRecursion as All}
+use Rattle.std.specs.List.{slice_get, AllByRecursion}
 use Rattle.std.proofs.lemmas.Bool.{and_parts, and_from, or_cases, or_left, or_right, or_from, false≢true}
 use Rattle.task_table.specs.declared.task.Task.{Task}
 use Rattle.jobs.specs.declared.job.Job.{Job}
@@ -31,7 +31,7 @@ tails k (Idle w ∷ xs) (y ∷ ys) a b e = absurd (false≢true a)
 tails k (Ready w l ∷ xs) (y ∷ ys) a b e = absurd (false≢true a)
 tails k (Dropped ∷ xs) (y ∷ ys) a b e = absurd (false≢true a)
 
-pub both_in : (R : Task → Type 0) (p q : Task → Job → Bool) (k : Kind) (rs : List Task) (xs ys : List Job) → All R rs → every p rs xs ≡ true → every q rs ys ≡ true → simulates_jobs k xs ys ≡ true → Both (λ r x y. R r × (p r x ≡ true) × (q r y ≡ true) × (simulates_job k x y ≡ true)) rs xs ys
+pub both_in : (R : Task → Type 0) (p q : Task → Job → Bool) (k : Kind) (rs : List Task) (xs ys : List Job) → AllByRecursion R rs → every p rs xs ≡ true → every q rs ys ≡ true → simulates_jobs k xs ys ≡ true → Both (λ r x y. R r × (p r x ≡ true) × (q r y ≡ true) × (simulates_job k x y ≡ true)) rs xs ys
 both_in R p q k [] xs ys h a b c = (tails k xs ys a b c, a)
 both_in R p q k (r ∷ rs) [] ys h a b c = absurd (false≢true a)
 both_in R p q k (r ∷ rs) (x ∷ xs) [] h a b c = absurd (false≢true b)
@@ -41,7 +41,7 @@ both_in R p q k (r ∷ rs) (x ∷ xs) (y ∷ ys) h a b c =
     let c' = and_parts (simulates_job k x y) (simulates_jobs k xs ys) c in
     ((h.0, a'.0, b'.0, c'.0), both_in R p q k rs xs ys h.1 a'.1 b'.1 c'.1)
 
-pub one_in : (R : Task → Type 0) (p : Task → Job → Bool) (rs : List Task) (xs : List Job) → All R rs → every p rs xs ≡ true → Both (λ r x y. R r × (p r x ≡ true) × (x ≡ y)) rs xs xs
+pub one_in : (R : Task → Type 0) (p : Task → Job → Bool) (rs : List Task) (xs : List Job) → AllByRecursion R rs → every p rs xs ≡ true → Both (λ r x y. R r × (p r x ≡ true) × (x ≡ y)) rs xs xs
 one_in R p [] xs h a = (refl, a)
 one_in R p (r ∷ rs) [] h a = absurd (false≢true a)
 one_in R p (r ∷ rs) (x ∷ xs) h a =

@@ -1,6 +1,6 @@
 -- Every table of right tasks keeps the laws of systems, in either kind and under every policy.
 use Rattle.std.specs.Prelude.{◌≡◌, ◌≤◌, true, List, map, length}
-use Rattle.std.specs.List.{AllByRecursion as All}
+use Rattle.std.specs.List.{AllByRecursion}
 use Rattle.task_table.specs.declared.mode.Mode.{Mode}
 use Rattle.task_table.specs.declared.task.Task.{Task}
 use Rattle.task_table.specs.Tasks.{Right}
@@ -19,7 +19,7 @@ pub record Lawful (pick : Pick) : Type 0 where
 
 -- what every table keeps
 pub record Table (ts : List Task) : Type 0 where
-  pub rights : All Right ts
+  pub rights : AllByRecursion Right ts
   pub few : length ts ≤ 8
 
 abbrev pub SystemsLawful : Type 0

@@ -1,6 +1,6 @@
 -- The test for right tasks tells the rule, of one task and of all in a list.
 use Rattle.std.proofs.Common.{◌≡◌, ℕ, ◌+◌, ◌<◌, ◌≤◌, true, List, [], ◌∷◌, ◌++◌, length, get_or, take, set, Decides, refl, arith}
-use Rattle.std.specs.List.{AllByRecursion as All}
+use Rattle.std.specs.List.{AllByRecursion}
 use Rattle.std.proofs.lemmas.Bool.Decides.{nat_tests}
 use Rattle.std.proofs.ByRecursion.{Decides-by_and, All-push, All-get_or}
 use Rattle.std.proofs.lemmas.List.{take_more_set, get_or-take, length-take-le}
@@ -41,7 +41,7 @@ right_at t High e =
 pub right_decides : (t : Task) → Decides (is_right t) (Right t)
 right_decides t = right_at t t.criticality refl
 
-pub all_right_decides : (ts : List Task) → Decides (all_right ts) (All Right ts)
+pub all_right_decides : (ts : List Task) → Decides (all_right ts) (AllByRecursion Right ts)
 all_right_decides = Decides-by_and is_right Right all_right right_decides refl (λ _ _. refl)
 
 pub right_put : (ts : List Task) (n : ℕ) (t : Task) → n < length ts → all_right (take n ts) ≡ true → is_right t ≡ true → all_right (take (n + 1) (set ts n t)) ≡ true

@@ -1,6 +1,6 @@
 -- Where no state on the way is late, no job of it is.
 use Rattle.std.proofs.Common.{◌≡◌, ℕ, true, false, ◌&&◌, List, [], ◌∷◌, Ok, Err, Result, refl, arith}
-use Rattle.std.specs.List.{AllByRecursion as All}
+use Rattle.std.specs.List.{AllByRecursion}
 use Rattle.std.proofs.lemmas.Bool.Decides.{nat_tests}
 use Rattle.task_table.specs.declared.task.Task.{Task}
 use Rattle.jobs.specs.declared.kind.Kind.{Kind}
@@ -28,7 +28,7 @@ module _ (pick : Pick) (kind : Kind) (tasks : List Task) (W : Laws (meaning pick
   after_fits e s (Ok t) g f = W.result_fits e s t f g
   after_fits e s (Err r) g f = f
 
-  way_misses : (es : List ℕ) (s : State) → fits kind tasks s ≡ true → All (λ t. late_in kind tasks t ≡ false) (way (meaning pick kind tasks) s es) → All (λ t. late tasks t ≡ false) (way (meaning pick kind tasks) s es)
+  way_misses : (es : List ℕ) (s : State) → fits kind tasks s ≡ true → AllByRecursion (λ t. late_in kind tasks t ≡ false) (way (meaning pick kind tasks) s es) → AllByRecursion (λ t. late tasks t ≡ false) (way (meaning pick kind tasks) s es)
   way_misses [] s f h = (in_time kind tasks s f h.0, tt)
   way_misses (e ∷ es) s f h =
       (in_time kind tasks s f h.0, way_misses es (after (gives pick kind tasks e s) s) (after_fits e s (gives pick kind tasks e s) refl f) h.1)

@@ -1,6 +1,6 @@
 -- Deadlines that are missed: which tasks have a late job, and that none ever has.
 use Rattle.std.specs.Prelude.{◌≡◌, ℕ, ◌+◌, false, cond, List, [], ◌∷◌}
-use Rattle.std.specs.List.{AllByRecursion as All}
+use Rattle.std.specs.List.{AllByRecursion}
 use Rattle.task_table.specs.declared.task.Task.{Task}
 use Rattle.jobs.specs.declared.kind.Kind.{Kind}
 use Rattle.jobs.specs.declared.job.Job.{Job}
@@ -12,7 +12,7 @@ use Rattle.task_laws.specs.Systems.{meaning}
 
 -- whatever events are made from the first state on, accepted or refused, in no state on the way is a job late
 abbrev pub NeverMisses : Pick → Kind → List Task → Type 0
-NeverMisses pick kind tasks = (es : List ℕ) → All (λ s. late tasks s ≡ false) (way (meaning pick kind tasks) (first kind tasks) es)
+NeverMisses pick kind tasks = (es : List ℕ) → AllByRecursion (λ s. late tasks s ≡ false) (way (meaning pick kind tasks) (first kind tasks) es)
 
 -- the numbers of the tasks whose job is late, where k tasks come before these
 abbrev pub late_numbers : ℕ → List Task → List Job → List ℕ

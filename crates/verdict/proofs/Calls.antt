@@ -1,6 +1,6 @@
 -- What calls leave of a run, and that whatever no state is, no moment is.
 use Rattle.std.proofs.Common.{◌≡◌, ℕ, ◌+◌, ◌<◌, ◌≤◌, Bool, true, false, ◌||◌, List, [], ◌∷◌, length, get_or, drop, sym, refl, ap, ◌∙◌}
-use Rattle.std.specs.List.{AllByRecursion as All}
+use Rattle.std.specs.List.{AllByRecursion}
 use Rattle.std.proofs.lemmas.List.{at_drop_more, at_drop_all}
 use Rattle.transition.specs.declared.run.Run.{Run}
 use Rattle.transition.specs.Meanings.{Meaning}
@@ -42,7 +42,7 @@ module _ {S X : Type 0} (means : S → Meaning X) where
   pub not_yet : (r : Run S X) (e : ℕ) (es : List ℕ) → late_run means r ≡ false → any_late means (moments means r (e ∷ es)) ≡ any_late means (moments means (called means r e) es)
   not_yet r e es h = rw h
 
-  way_moments : (s : S) (es : List ℕ) (x : X) → All (λ y. (means s).late y ≡ false) (way (means s) x es) → All (λ r. late_run means r ≡ false) (moments means (run_at s x) es)
+  way_moments : (s : S) (es : List ℕ) (x : X) → AllByRecursion (λ y. (means s).late y ≡ false) (way (means s) x es) → AllByRecursion (λ r. late_run means r ≡ false) (moments means (run_at s x) es)
   way_moments s [] x h = h
   way_moments s (e ∷ es) x h = (h.0, way_moments s es (after ((means s).gives e x) x) h.1)
 
@@ -50,7 +50,7 @@ module _ {S X : Type 0} (means : S → Meaning X) where
   pub runs_never_late : (s : S) → NeverLate (means s) → RunsNeverLate means s
   runs_never_late s h es = way_moments s es (means s).first (h es)
 
-  moments_way : (s : S) (es : List ℕ) (x : X) → All (λ r. late_run means r ≡ false) (moments means (run_at s x) es) → All (λ y. (means s).late y ≡ false) (way (means s) x es)
+  moments_way : (s : S) (es : List ℕ) (x : X) → AllByRecursion (λ r. late_run means r ≡ false) (moments means (run_at s x) es) → AllByRecursion (λ y. (means s).late y ≡ false) (way (means s) x es)
   moments_way s [] x h = h
   moments_way s (e ∷ es) x h = (h.0, moments_way s es (after ((means s).gives e x) x) h.1)
 

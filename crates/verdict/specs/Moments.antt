@@ -1,6 +1,6 @@
 -- What calls of events do to a run.
 use Rattle.std.specs.Prelude.{◌≡◌, ℕ, Bool, false, ◌||◌, List, [], ◌∷◌}
-use Rattle.std.specs.List.{AllByRecursion as All}
+use Rattle.std.specs.List.{AllByRecursion}
 use Rattle.transition.specs.declared.run.Run.{Run}
 use Rattle.transition.specs.Meanings.{Meaning}
 use Rattle.transition.specs.Runs.{after}
@@ -35,4 +35,4 @@ module _ {S X : Type 0} (means : S → Meaning X) where
 
   -- whatever events are called on a new run of the system, accepted or refused, at no moment is it late
   abbrev pub RunsNeverLate : S → Type 0
-  RunsNeverLate s = (es : List ℕ) → All (λ r. late_run r ≡ false) (moments (begun s) es)
+  RunsNeverLate s = (es : List ℕ) → AllByRecursion (λ r. late_run r ≡ false) (moments (begun s) es)

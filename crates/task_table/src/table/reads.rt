@@ -1,6 +1,6 @@
 // What a table shows.
 ghost use Rattle.std.specs.Prelude.{◌≡◌, ◌≤◌, length, IfSome};
-ghost use Rattle.std.specs.List.{AllByRecursion as All};
+ghost use Rattle.std.specs.List.{AllByRecursion};
 ghost use Rattle.task_table.specs.Tasks.{Right};
 ghost use Rattle.task_table.specs.Tables.{tasks_of, numbered};
 
@@ -31,7 +31,7 @@ impl TaskTable {
     // All tasks, in their order.
     pub fn tasks(&self) -> &[Task]
         ensures answers { result.now ≡ tasks_of self.now }
-        ensures right { All Right result.now }
+        ensures right { AllByRecursion Right result.now }
         ensures few { length result.now ≤ 8 }
     {
         &self.list.rows[0..self.list.count]
