@@ -2,6 +2,6 @@
 #![tactic(auto)]
 
 #[cfg(test)]
-mod lines;
+mod chosen;
 #[cfg(test)]
-mod policies;
+mod lines;
