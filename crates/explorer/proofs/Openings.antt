@@ -8,7 +8,7 @@ use Rattle.exploration.specs.declared.node.Visit.{Visit}
 use Rattle.exploration.specs.declared.outcome.Outcome.{Outcome}
 use Rattle.exploration.specs.declared.outcome.Outcome.TheVariants.{Schedulable}
 use Rattle.exploration.specs.Stores.{Store, Going, on, over, then, opening, first_unopened}
-use Rattle.exploration.specs.Exploring.{sweep, open_found, turn, left, rest}
+use Rattle.exploration.specs.Exploring.{sweep, open_found, turn, rest}
 use Rattle.exploration.proofs.Nodes.{first_unopened_at, first_unopened_none}
 use Rattle.exploration.proofs.Turns.{rest_turn}
 use Rattle.explorer.specs.Held.{held, ComesTo}

@@ -1,6 +1,6 @@
 -- What the steps of a run tell.
 use Rattle.std.proofs.Common.{◌≡◌, ℕ, zero, suc, ◌+◌, ◌<◌, List, [], ◌∷◌, ◌++◌, length, get_or, take, drop, sym, refl, ap, ◌∙◌, append_assoc, add-one, arith}
-use Rattle.std.proofs.lemmas.List.{at_drop_more, drop_more}
+use Rattle.std.proofs.lemmas.List.{at_drop_more}
 use Rattle.transition.specs.Meanings.{Meaning}
 use Rattle.transition.specs.Runs.{after, told, walk}
 use Rattle.run_steps.specs.declared.step.Step.{Step}

@@ -1,4 +1,4 @@
-use Rattle.std.proofs.Common.{◌<◌, ◌≤◌, ◌⊎◌, [], length, sym, refl, ap, ◌∙◌, inl, inr, ⊎_elim, arith}
+use Rattle.std.proofs.Common.{◌<◌, ◌≤◌, [], length, sym, refl, ap, ◌∙◌, inl, inr, ⊎_elim, arith}
 use Rattle.exploration.specs.declared.outcome.Outcome.TheVariants.{TooLarge}
 use Rattle.exploration.specs.Claims.{IsTooLarge, EveryVisitTells, Antichain}
 use Rattle.exploration.proofs.Turns.{explored_too_large}

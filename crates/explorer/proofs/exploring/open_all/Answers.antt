@@ -1,6 +1,6 @@
 use Rattle.std.proofs.Common.{◌≡◌, ◌+◌, ◌<◌, [], length, sym, refl, ◌∙◌, arith}
 use Rattle.exploration.specs.declared.outcome.Outcome.TheVariants.{Schedulable}
-use Rattle.exploration.specs.Stores.{on, over}
+use Rattle.exploration.specs.Stores.{on}
 use Rattle.exploration.specs.Exploring.{turn}
 use Rattle.exploration.proofs.Turns.{turn_less}
 use Rattle.explorer.specs.Held.{held, ComesTo}

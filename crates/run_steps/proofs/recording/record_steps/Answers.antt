@@ -1,9 +1,8 @@
-use Rattle.std.proofs.Common.{◌≡◌, ◌+◌, List, [], ◌∷◌, ◌++◌, get_or, drop, vec_items, sym, refl, ap, ◌∙◌, append-nil, arith}
+use Rattle.std.proofs.Common.{◌≡◌, ◌+◌, ◌++◌, get_or, drop, vec_items, sym, refl, ap, ◌∙◌, append-nil, arith}
 use Rattle.std.proofs.lemmas.List.{at_drop_all}
 use Rattle.transition.specs.Runs.{after, told, walk}
 use Rattle.transition.proofs.Walks.{walk_more}
-use Rattle.run_steps.specs.declared.step.Step.{Step}
-use Rattle.run_steps.specs.Steps.{step, steps}
+use Rattle.run_steps.specs.Steps.{steps}
 use Rattle.run_steps.proofs.Tells.{tells, steps_more, step_is}
 use Rattle.run_steps.proofs.recording.record_steps.Goals as goal
 
