@@ -1,5 +1,5 @@
 -- The forced events of the lock are ticks, and each makes the boat wait one tick more.
-use Rattle.std.proofs.Common.{◌≡◌, ℕ, zero, suc, ◌+◌, ◌≤◌, true, List, length, replicate, Some, Ok, subst, arith}
+use Rattle.std.proofs.Common.{◌≡◌, ℕ, zero, suc, ◌+◌, ◌≤◌, true, List, replicate, Some, Ok, subst, arith}
 use Rattle.std.proofs.lemmas.Bool.Decides.{nat_tests}
 use Rattle.transition.specs.Runs.{onward, replay, forced_on}
 use Rattle.exploration.specs.declared.node.Visit.{Visit}
@@ -7,7 +7,7 @@ use Rattle.exploration.specs.Claims.{ShownLate}
 use Rattle.exploration.proofs.Runs.{onward_some, replay_append}
 use Rattle.canal_lock.specs.declared.lock.Lock.{Lock}
 use Rattle.canal_lock.specs.declared.lock.Chamber.{Chamber}
-use Rattle.canal_lock.specs.Locks.{fits, late, gives, forced, meaning}
+use Rattle.canal_lock.specs.Locks.{late, gives, forced, meaning}
 use Rattle.lock_check.specs.Findings.{ShownOverdue}
 use Rattle.lock_check.proofs.Overdue.{late_overdue}
 

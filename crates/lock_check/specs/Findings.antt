@@ -1,5 +1,5 @@
 -- What a check of a lock tells of it: event 1 is a boat that comes, event 2 a tick.
-use Rattle.std.specs.Prelude.{◌≡◌, ℕ, suc, ◌<◌, ◌≤◌, true, false, ◌⊎◌, List, ◌++◌, length, replicate, Some, ◌≢◌}
+use Rattle.std.specs.Prelude.{◌≡◌, ℕ, suc, ◌<◌, ◌≤◌, true, ◌⊎◌, List, ◌++◌, length, replicate, Some, ◌≢◌}
 use Rattle.std.specs.List.{AllByRecursion}
 use Rattle.transition.specs.Runs.{way, replay, forced_on}
 use Rattle.exploration.specs.declared.node.Node.{Node}

@@ -1,7 +1,6 @@
 -- What calls leave of a run, and that whatever no state is, no moment is.
-use Rattle.std.proofs.Common.{◌≡◌, ℕ, ◌+◌, ◌<◌, ◌≤◌, Bool, true, false, ◌||◌, List, [], ◌∷◌, length, get_or, drop, sym, refl, ap, ◌∙◌}
+use Rattle.std.proofs.Common.{◌≡◌, ℕ, Bool, true, false, ◌||◌, List, [], ◌∷◌, sym, refl, ap, ◌∙◌}
 use Rattle.std.specs.List.{AllByRecursion}
-use Rattle.std.proofs.lemmas.List.{at_drop_more, at_drop_all}
 use Rattle.transition.specs.declared.run.Run.{Run}
 use Rattle.transition.specs.Meanings.{Meaning}
 use Rattle.transition.specs.Runs.{after, walk, way}

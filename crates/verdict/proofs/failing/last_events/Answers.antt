@@ -1,4 +1,4 @@
-use Rattle.std.proofs.Common.{◌≡◌, sym, ap, ◌∙◌, arith}
+use Rattle.std.proofs.Common.{◌∙◌, arith}
 use Rattle.verdict.proofs.Replays.{told_front}
 use Rattle.verdict.proofs.failing.last_events.Goals as goal
 

@@ -1,4 +1,4 @@
-use Rattle.std.proofs.Common.{◌≡◌, vec_items, ap, ◌∙◌}
+use Rattle.std.proofs.Common.{vec_items, ap, ◌∙◌}
 use Rattle.verdict.specs.Moments.{begun, calls}
 use Rattle.verdict.proofs.Lateness.{doomed_then, fails}
 use Rattle.verdict.proofs.failing.make_late.Goals as goal

@@ -1,6 +1,6 @@
-use Rattle.std.proofs.Common.{◌≡◌, ◌+◌, get_or, drop, sym, ap, ◌∙◌, arith}
+use Rattle.std.proofs.Common.{◌+◌, get_or, drop, sym, ap, ◌∙◌, arith}
 use Rattle.std.proofs.lemmas.List.{at_drop_more, at_drop_all}
-use Rattle.verdict.specs.Moments.{begun, called, moments, any_late}
+use Rattle.verdict.specs.Moments.{moments, any_late}
 use Rattle.verdict.proofs.Calls.{same_run, late_now, late_at_end, not_yet}
 use Rattle.verdict.proofs.moments.is_ever_late.Goals as goal
 
