@@ -1,6 +1,5 @@
 -- The policy that settings name.
 use Rattle.std.specs.Prelude.{◌≡◌, ℕ, ◌-◌, Bool, true, false, cond, ◌&&◌, List, [], ◌∷◌, ◌++◌, length, replicate, Some, None, Ok, Err, Option, Result, ◌==◌, nat_le}
-use Rattle.std.specs.Option.{option_map}
 use Rattle.command_options.specs.Choices.{Chosen}
 use Rattle.command_options.specs.declared.options.Key.{Key}
 use Rattle.command_options.specs.declared.options.Key.TheVariants.{Ranks, Shorten}

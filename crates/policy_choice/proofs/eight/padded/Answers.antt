@@ -13,4 +13,4 @@ behind ns copied e =
     ∙ ap (λ xs. ns ++ xs) (drop-replicate (length ns) 8 0)
 
 pub returns : goal.returns
-returns c = behind c.args.numbers.now c.copy-from-slice.new.self c.copy-from-slice.ensures.after
+returns c = behind c.args.numbers.now c.copy_from_slice.new.self c.copy_from_slice.ensures.after
