@@ -1,7 +1,7 @@
 // Why a draft refuses a task.
-ghost use Rattle.std.specs.Prelude.{◌≡◌};
-ghost use Rattle.task_table.specs.Refusals.{number};
+ghost use Rattle.task_table.specs.Refusals.{number as number_of, number_positive};
 
+use numbered_refusals::Numbered;
 use std::fmt;
 
 #[derive(Clone, Copy, Debug, PartialEq, Eq)]
@@ -12,11 +12,12 @@ pub enum DraftRefusal {
     WrongTask,
 }
 
-impl DraftRefusal {
-    // The number by which the refusal is told.
-    pub fn number(self) -> u8
-        ensures { result ≡ number self }
-    {
+impl Numbered for DraftRefusal {
+    ghost number = { number_of };
+
+    ghost positive = { λ refusal. number_positive refusal };
+
+    fn number(&self) -> u8 {
         match self {
             DraftRefusal::NinthTask => 1,
             DraftRefusal::WrongTask => 2,
