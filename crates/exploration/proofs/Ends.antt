@@ -19,7 +19,7 @@ use Rattle.exploration.proofs.Runs.{Led, led_leads, led_reached, led_more, visit
 use Rattle.exploration.proofs.Enters.{Entered, known, visits_full, found_doomed, nodes_full, new, entered}
 use Rattle.exploration.proofs.Invariant.{Apart, Differ, ByVisit, History, Kept, Inv, unlike, noted_history, noted_kept, cleared_kept, added_apart, added_by_visit, keeps}
 
-module _ {X : Type 0} (M : Meaning X) where
+module _ {X R : Type 0} (M : Meaning X R) where
   history_reached : (vs : List Visit) (xs : List X) → History M vs xs → AllByRecursion (Reached M) xs
   history_reached vs xs H = all_numbered (Reached M) xs (λ k x a. led_reached M vs k x (H.led k x a))
 
@@ -59,7 +59,7 @@ module _ {X : Type 0} (M : Meaning X) where
   Fine P L J (on s) = J s
   Fine P L J (over o s) = End P L o s
 
-module _ {X : Type 0} (M : Meaning X) (P L : ℕ) (W : Laws M) (Owed : X → ℕ → Type 0) (Root : X → Type 0) (p e : ℕ) (r : X) (s : Store X) (I : Inv M P L Owed Root s) (from : Comes M s.visits p e r) where
+module _ {X R : Type 0} (M : Meaning X R) (P L : ℕ) (W : Laws M) (Owed : X → ℕ → Type 0) (Root : X → Type 0) (p e : ℕ) (r : X) (s : Store X) (I : Inv M P L Owed Root s) (from : Comes M s.visits p e r) where
   module _ (fresh : simulated M (states s.nodes) r ≡ false) where
     many_different : L ≤ length s.visits → VisitsHonestlyFull M L
     many_different h =

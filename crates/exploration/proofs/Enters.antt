@@ -9,7 +9,7 @@ use Rattle.exploration.specs.declared.outcome.Outcome.TheVariants.{Unschedulable
 use Rattle.exploration.specs.Stores.{Store, Going, on, over, store, states, noted, keeping}
 use Rattle.exploration.specs.Exploring.{simulated, without, cleared, enter}
 
-module _ {X : Type 0} (M : Meaning X) (P L : ℕ) where
+module _ {X R : Type 0} (M : Meaning X R) (P L : ℕ) where
   -- the five ways to enter the state r from the visit p by the event e
   pub data Entered (p e : ℕ) (r : X) (s : Store X) : Going X → Type 0 where
     known : simulated M (states s.nodes) r ≡ true → Entered p e r s (on s)

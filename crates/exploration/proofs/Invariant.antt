@@ -15,7 +15,7 @@ use Rattle.exploration.proofs.Lists.{Pairwise, pairwise_push, pairwise_kept, all
 use Rattle.exploration.proofs.Nodes.{simulated_none, simulated_last, simulated_still}
 use Rattle.exploration.proofs.Runs.{Led, led_more, visit, Comes, comes_led, comes_reached, reached_fits}
 
-module _ {X : Type 0} (M : Meaning X) where
+module _ {X R : Type 0} (M : Meaning X R) where
   -- neither state simulates the other
   abbrev pub Apart : X → X → Type 0
   Apart x y = (M.simulates x y ≡ false) × (M.simulates y x ≡ false)
@@ -58,7 +58,7 @@ module _ {X : Type 0} (M : Meaning X) where
   by_visit_more : (xs : List X) (r : X) (ns : List (Node X)) → AllByRecursion (ByVisit xs) ns → AllByRecursion (ByVisit (xs ++ r ∷ [])) ns
   by_visit_more xs r ns h = All-weaker (ByVisit xs) (ByVisit (xs ++ r ∷ [])) (λ n a. numbered_more xs (r ∷ []) n.visit n.state a) ns h
 
-module _ {X : Type 0} (M : Meaning X) (P L : ℕ) where
+module _ {X R : Type 0} (M : Meaning X R) (P L : ℕ) where
   -- Owed x e: the result of the event e in x need not be simulated yet; Root x: x is simulated
   pub record Inv (Owed : X → ℕ → Type 0) (Root : X → Type 0) (s : Store X) : Type 0 where
     pub history : History M s.visits s.entered

@@ -10,7 +10,7 @@ use Rattle.exploration.specs.Stores.{states, opening, behind, first_unopened, un
 use Rattle.exploration.specs.Exploring.{simulated, without}
 use Rattle.exploration.proofs.Lists.{Pairwise}
 
-module _ {X : Type 0} (M : Meaning X) where
+module _ {X R : Type 0} (M : Meaning X R) where
   -- one of the states simulates the state, with what holds of all of them
   pub simulated_by : (xs : List X) (r : X) (Q : X → Type 0) → simulated M xs r ≡ true → AllByRecursion Q xs → (x : X) × (M.simulates x r ≡ true) × Q x
   simulated_by [] r Q e a = absurd (false≢true e)

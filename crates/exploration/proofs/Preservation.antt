@@ -17,10 +17,10 @@ use Rattle.exploration.proofs.Runs.{Led, led_reached, reached_fits}
 use Rattle.exploration.proofs.Invariant.{Apart, ByVisit, History, Inv}
 use Rattle.exploration.proofs.Ends.{End, Fine, every_visit, antichain, enter_fine}
 
-err_ok : {X Y : Type 0} (o : Result X Refusal) (r : Refusal) (x : X) → o ≡ Err r → o ≡ Ok x → Y
+err_ok : {X Y E : Type 0} (o : Result X E) (r : E) (x : X) → o ≡ Err r → o ≡ Ok x → Y
 err_ok o r x p q = let z : ◌≡◌ {A = ℕ} 0 1 = cc in absurd (omega arith)
 
-module _ {X : Type 0} (M : Meaning X) (P L : ℕ) where
+module _ {X R : Type 0} (M : Meaning X R) (P L : ℕ) where
   then_fine : (J K : Store X → Type 0) (g : Going X) (f : Store X → Going X) → Fine M P L J g → ((s : Store X) → J s → Fine M P L K (f s)) → Fine M P L K (then g f)
   then_fine J K (on s) f h k = k s h
   then_fine J K (over o s) f h k = h
@@ -57,7 +57,7 @@ module _ {X : Type 0} (M : Meaning X) (P L : ℕ) where
         (λ y d z q o. elim (cases_lt e d) [ inl a ↦ inr (o.0, a) | inr a ↦ inl (h z (let b : e ≡ d = omega arith in rw (b, ← o.0) q)) ])
         (λ y r. I.rooted y (k y r))
 
-    entering_fine : (e : ℕ) (s : Store X) → Inv M P L (Owing x e) Root s → Led M s.visits p x → (o : Result X Refusal) → M.gives e x ≡ o
+    entering_fine : (e : ℕ) (s : Store X) → Inv M P L (Owing x e) Root s → Led M s.visits p x → (o : Result X (Refusal R)) → M.gives e x ≡ o
         → Fine M P L (λ t. Inv M P L (Owing x (suc e)) Root t × Led M t.visits p x) (entering M P L p e o s)
     entering_fine e s I t (Err f) q = (owing_less e Root s I (λ z h. err_ok (M.gives e x) f z q h) (λ y r. r), t)
     entering_fine e s I t (Ok r) q =

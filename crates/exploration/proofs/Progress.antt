@@ -32,7 +32,7 @@ module _ {X : Type 0} where
   never_on (on s) h = absurd h
   never_on (over o s) h = (o, (s, refl))
 
-module _ {X : Type 0} (M : Meaning X) (P L : ℕ) where
+module _ {X R : Type 0} (M : Meaning X R) (P L : ℕ) where
   -- the visits are within those lent, and at most F is left to do
   pub record Leaves (F : ℕ) (s : Store X) : Type 0 where
     pub short : length s.visits ≤ L
@@ -53,7 +53,7 @@ module _ {X : Type 0} (M : Meaning X) (P L : ℕ) where
           let l = w.little in
           record { short = omega arith; little = omega arith }
 
-  entering_leaves : (F p e : ℕ) (o : Result X Refusal) (s : Store X) → Leaves F s → On (Leaves F) (entering M P L p e o s)
+  entering_leaves : (F p e : ℕ) (o : Result X (Refusal R)) (s : Store X) → Leaves F s → On (Leaves F) (entering M P L p e o s)
   entering_leaves F p e (Ok r) s w = enter_leaves F p e r s w
   entering_leaves F p e (Err f) s w = w
 

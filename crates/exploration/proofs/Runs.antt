@@ -17,7 +17,7 @@ onward_some (Err r) f y e = none_some None y refl e
 abbrev pub visit : ℕ → ℕ → Visit
 visit p e = record { parent = p; event = e }
 
-module _ {X : Type 0} (M : Meaning X) where
+module _ {X R : Type 0} (M : Meaning X R) where
   replay_next : (e : ℕ) (es : List ℕ) (x y z : X) → M.gives e x ≡ Ok y → replay M y es ≡ Some z → replay M x (e ∷ es) ≡ Some z
   replay_next e es x y z g a = rw g a
 

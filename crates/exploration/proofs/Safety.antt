@@ -11,8 +11,8 @@ use Rattle.exploration.specs.Claims.{Closed, NeverLate, EverLate}
 use Rattle.exploration.proofs.Runs.{onward_some}
 use Rattle.exploration.proofs.Nodes.{simulated_by, simulated_through}
 
-module _ {X : Type 0} (M : Meaning X) (W : Laws M) (xs : List X) (C : Closed M xs) where
-  after_simulated : (e : ℕ) (y : X) → simulated M xs y ≡ true → (o : Result X Refusal) → M.gives e y ≡ o → simulated M xs (after o y) ≡ true
+module _ {X R : Type 0} (M : Meaning X R) (W : Laws M) (xs : List X) (C : Closed M xs) where
+  after_simulated : (e : ℕ) (y : X) → simulated M xs y ≡ true → (o : Result X (Refusal R)) → M.gives e y ≡ o → simulated M xs (after o y) ≡ true
   after_simulated e y h (Err r) q = h
   after_simulated e y h (Ok z) q =
       let b = simulated_by M xs y _ h C.holds_next in
@@ -32,7 +32,7 @@ module _ {X : Type 0} (M : Meaning X) (W : Laws M) (xs : List X) (C : Closed M x
   pub closed_never_late : NeverLate M
   closed_never_late es = way_safe es M.first C.holds_first
 
-module _ {X : Type 0} (M : Meaning X) where
+module _ {X R : Type 0} (M : Meaning X R) where
   -- the state that accepted events lead to is on the way
   way_ends : (Q : X → Type 0) (es : List ℕ) (x z : X) → replay M x es ≡ Some z → AllByRecursion Q (way M x es) → Q z
   way_ends Q [] x z a h = let k : x ≡ z = cc in rw (← k) h.0

@@ -15,7 +15,7 @@ use Rattle.exploration.proofs.Runs.{shown_ever_late}
 use Rattle.exploration.proofs.Ends.{Answer, End}
 use Rattle.exploration.proofs.Preservation.{exploring_end}
 
-module _ {X : Type 0} (M : Meaning X) (P L : ℕ) where
+module _ {X R : Type 0} (M : Meaning X R) (P L : ℕ) where
   end_tells : Laws M → (o : Outcome) (s : Store X) → (IsTooLarge P L → o ≡ TooLarge) → End M P L o s → Tells M P L o s
   end_tells W o s refused E = record {
     never_late = λ q. closed_never_late M W (states s.nodes) (so q);

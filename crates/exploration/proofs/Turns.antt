@@ -10,7 +10,7 @@ use Rattle.exploration.specs.Claims.{IsTooLarge}
 use Rattle.exploration.specs.Unrolling.{Unrolled}
 use Rattle.exploration.proofs.Progress.{On, on_then, on_both, then_same, never_on, Leaves, enter_leaves, turn_leaves, last_turn, leaves_left}
 
-module _ {X : Type 0} (M : Meaning X) (P L : ℕ) where
+module _ {X R : Type 0} (M : Meaning X R) (P L : ℕ) where
   turns_end : (F : ℕ) (s : Store X) → Leaves M P L F s → On (λ _. ⊥) (turns M P L (suc F) s)
   unfolding turns
   turns_end zero s w = on_then (λ _. ⊥) (λ _. ⊥) (turn M P L s) (turns M P L zero) (last_turn M P L s w) (λ t h. absurd h)

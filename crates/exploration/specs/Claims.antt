@@ -15,7 +15,7 @@ use Rattle.exploration.specs.Traces.{Traced}
 abbrev pub IsTooLarge : ℕ → ℕ → Type 0
 IsTooLarge P L = (most_nodes < P) ⊎ (most_visits < L)
 
-module _ {X : Type 0} (M : Meaning X) where
+module _ {X R : Type 0} (M : Meaning X R) where
   -- whatever events are made, accepted or refused, no state on the way is late
   abbrev pub NeverLate : Type 0
   NeverLate = (es : List ℕ) → AllByRecursion (λ x. M.late x ≡ false) (way M M.first es)

@@ -7,7 +7,7 @@ use Rattle.exploration.specs.declared.outcome.Outcome.{Outcome}
 use Rattle.exploration.specs.declared.outcome.Outcome.TheVariants.{Schedulable, Unschedulable, TooLarge, VisitsFull, NodesFull}
 use Rattle.exploration.specs.Stores.{Store, Going, on, over, then, store, nothing, states, first_unopened, unopened, noted, keeping}
 
-module _ {X : Type 0} (M : Meaning X) where
+module _ {X R : Type 0} (M : Meaning X R) where
   -- whether one of the states simulates the state
   abbrev pub simulated : List X → X → Bool
   simulated [] r = false
@@ -21,7 +21,7 @@ module _ {X : Type 0} (M : Meaning X) where
   abbrev pub cleared : X → Store X → Store X
   cleared r s = store (without r s.nodes) s.visits s.entered
 
-module _ {X : Type 0} (M : Meaning X) (P L : ℕ) where
+module _ {X R : Type 0} (M : Meaning X R) (P L : ℕ) where
   -- the state that the last visit entered ends exploring where it is doomed, else is kept in place of the nodes that it simulates
   abbrev pub admit : X → Store X → Going X
   admit r s =
@@ -35,7 +35,7 @@ module _ {X : Type 0} (M : Meaning X) (P L : ℕ) where
       (cond (nat_lt (length s.visits) L) (admit r (noted p e r s)) (over VisitsFull s))
 
   -- the result of an event is entered where the event is accepted
-  abbrev pub entering : ℕ → ℕ → Result X Refusal → Store X → Going X
+  abbrev pub entering : ℕ → ℕ → Result X (Refusal R) → Store X → Going X
   entering p e (Ok r) s = enter p e r s
   entering p e (Err f) s = on s
 
@@ -84,5 +84,5 @@ ended (over o s) = (o, s)
 ended (on s) = (TooLarge, s)
 
 -- how exploring ends with so many nodes and visits lent, and what it leaves: too many are refused
-unfoldable pub explored : {X : Type 0} → Meaning X → ℕ → ℕ → Outcome × Store X
+unfoldable pub explored : {X R : Type 0} → Meaning X R → ℕ → ℕ → Outcome × Store X
 explored M P L = cond (nat_le P most_nodes && nat_le L most_visits) (ended (exploring M P L)) (TooLarge, nothing)

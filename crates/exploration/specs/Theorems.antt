@@ -7,7 +7,7 @@ use Rattle.exploration.specs.Unrolling.{Unrolled}
 use Rattle.exploration.specs.Traces.{Tracing}
 use Rattle.exploration.specs.Claims.{NeverLate, EverLate, Closed, Tells, Enough, Decides}
 
-module _ {X : Type 0} (M : Meaning X) where
+module _ {X R : Type 0} (M : Meaning X R) where
   -- however much memory is lent, the end of exploring tells what it should of the system
   abbrev pub ExploringTells : Type 0
   ExploringTells = (P L : ℕ) → Tells M P L (explored M P L).0 (explored M P L).1

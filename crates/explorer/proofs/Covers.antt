@@ -7,7 +7,7 @@ use Rattle.exploration.specs.declared.node.Node.{Node}
 use Rattle.exploration.specs.Stores.{states}
 use Rattle.exploration.specs.Exploring.{simulated}
 
-module _ {X : Type 0} (M : Meaning X) (r : X) (ns : List (Node X)) (n i : ℕ) (d : Node X) (within : n ≤ length ns) (inside : i < n) where
+module _ {X R : Type 0} (M : Meaning X R) (r : X) (ns : List (Node X)) (n i : ℕ) (d : Node X) (within : n ≤ length ns) (inside : i < n) where
   unrolled : simulated M (states (drop i (take n ns))) r ≡ (M.simulates (get_or ns i d).state r || simulated M (states (drop (i + 1) (take n ns))) r)
   unrolled =
       let long : length (take n ns) ≡ n = length-take-le n ns within in

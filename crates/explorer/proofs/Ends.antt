@@ -12,7 +12,7 @@ use Rattle.exploration.proofs.Turns.{exploring_rest, explored_within}
 use Rattle.exploration.proofs.Theorems.{exploring_tells, exploring_decides}
 use Rattle.explorer.specs.Held.{held}
 
-module _ {X : Type 0} (M : Meaning X) (P L : ℕ) where
+module _ {X R : Type 0} (M : Meaning X R) (P L : ℕ) where
   -- the first state is entered, and the rest is explored from there
   explored_then : P ≤ 4096 → L ≤ 65535 → (x : X) → x ≡ M.first → (g : Going X) → enter M P L 0 0 x nothing ≡ g → explored M P L ≡ ended (then g (rest M P L))
   explored_then small few x first g e =

@@ -10,7 +10,7 @@ use Rattle.exploration.specs.Exploring.{simulated, without, enter}
 use Rattle.exploration.proofs.Enters.{enter_known, enter_visits_full, enter_doomed, enter_nodes_full, enter_new}
 use Rattle.explorer.specs.Held.{held}
 
-module _ {X : Type 0} (M : Meaning X) (ns : List (Node X)) (n : ℕ) (vs : List Visit) (v : ℕ) (from : Visit) (r : X) (es : List X) where
+module _ {X R : Type 0} (M : Meaning X R) (ns : List (Node X)) (n : ℕ) (vs : List Visit) (v : ℕ) (from : Visit) (r : X) (es : List X) where
   -- what entering the state comes to
   abbrev pub Enters : Going X → Type 0
   Enters g = enter M (length ns) (length vs) from.parent from.event r (held ns n vs v es) ≡ g

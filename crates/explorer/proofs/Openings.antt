@@ -21,7 +21,7 @@ unfolding first_unopened
 none_unopened [] all = refl
 none_unopened (n ∷ ns) all = first_unopened_none (n ∷ ns) n (λ k h. all k n h)
 
-module _ {X : Type 0} (M : Meaning X) (P L : ℕ) where
+module _ {X R : Type 0} (M : Meaning X R) (P L : ℕ) where
   -- exploring from one store on comes to the same as from another
   abbrev pub Opened : (List X → Store X) → (List X → Store X) → Type 0
   Opened before after = ComesTo (λ es. rest M P L (before es)) (λ fs. rest M P L (after fs))

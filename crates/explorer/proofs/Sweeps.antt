@@ -7,7 +7,7 @@ use Rattle.exploration.specs.Stores.{Store, on, over, then}
 use Rattle.exploration.specs.Exploring.{enter, entering, sweep}
 use Rattle.explorer.specs.Held.{going, ComesTo}
 
-module _ {X : Type 0} (M : Meaning X) (P L : ℕ) (x : X) (p : ℕ) where
+module _ {X R : Type 0} (M : Meaning X R) (P L : ℕ) (x : X) (p : ℕ) where
   -- with the events below e swept, exploring that was at one store is at another
   pub record Swept (e : ℕ) (before after : List X → Store X) : Type 0 where
     pub upto : e ≤ M.count + 1
@@ -33,7 +33,7 @@ module _ {X : Type 0} (M : Meaning X) (P L : ℕ) (x : X) (p : ℕ) where
         let next : M.count + 1 - e ≡ suc (M.count + 1 - (e + 1)) = omega arith in
         (found.0, found.1 ∙ ap (λ k. sweep M P L x p k e (after found.0)) next ∙ ap (λ f. then (entering M P L p e (M.gives e x) (after found.0)) (sweep M P L x p (M.count + 1 - (e + 1)) f)) (sym (add-one e)))
 
-    pub swept_refused : (r : Refusal) → M.gives e x ≡ Err r → Swept (e + 1) before after
+    pub swept_refused : (r : Refusal R) → M.gives e x ≡ Err r → Swept (e + 1) before after
     swept_refused r g = record {
       upto = omega arith;
       same = λ es. let found = one es in (found.0, found.1 ∙ ap (λ o. then (entering M P L p e o (after found.0)) (sweep M P L x p (M.count + 1 - (e + 1)) (e + 1))) g);

@@ -26,5 +26,5 @@ module _ {X : Type 0} where
   shown end = (end.0, end.1.nodes, end.1.visits)
 
   -- what the slices hold at the end where P nodes and L visits were lent
-  abbrev pub left_by : Meaning X → ℕ → ℕ → List (Node X) → ℕ → List Visit → ℕ → Store X
+  abbrev pub left_by : {R : Type 0} → Meaning X R → ℕ → ℕ → List (Node X) → ℕ → List Visit → ℕ → Store X
   left_by M P L ns n vs v = held ns n vs v (explored M P L).1.entered

@@ -5,21 +5,26 @@ use Rattle.transition.specs.Refusals.{number}
 use Rattle.transition.specs.Meanings.{Meaning}
 
 -- the state after an answer: a refusal leaves it as it was
-abbrev pub after : {X : Type 0} → Result X Refusal → X → X
+abbrev pub after : {X E : Type 0} → Result X E → X → X
 after (Ok y) x = y
 after (Err r) x = x
 
+-- whether the event is accepted, or why it is refused
+abbrev pub answered : {X E : Type 0} → Result X E → Result (Unit {0}) E
+answered (Ok y) = Ok tt
+answered (Err r) = Err r
+
 -- 0 where the event is accepted, else the refusal's number
-abbrev pub told : {X : Type 0} → Result X Refusal → ℕ
-told (Ok y) = 0
-told (Err r) = number r
+abbrev pub told : {X R : Type 0} → (R → ℕ) → Result X (Refusal R) → ℕ
+told own (Ok y) = 0
+told own (Err r) = number own r
 
 -- what goes on from an accepted result
 abbrev pub onward : {X Y E : Type 0} → Result X E → (X → Option Y) → Option Y
 onward (Ok x) f = f x
 onward (Err r) f = None
 
-module _ {X : Type 0} (M : Meaning X) where
+module _ {X R : Type 0} (M : Meaning X R) where
   -- every state on the way while the events are made, the first one included; a refused event leaves the state
   abbrev pub way : X → List ℕ → List X
   way x [] = x ∷ []

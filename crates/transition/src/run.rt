@@ -1,6 +1,6 @@
 // A run of a system: the state that the events made so far have led to.
 ghost use Rattle.std.specs.Prelude.{◌≡◌, true, is_ok, IfOk, ◌==◌};
-ghost use Rattle.transition.specs.Runs.{after, told, walk};
+ghost use Rattle.transition.specs.Runs.{after, answered, told, walk};
 
 use crate::refusal::Refusal;
 use crate::system::System;
@@ -22,21 +22,17 @@ impl<S: System> Run<S> {
         Run { system, state }
     }
 
-    // Makes the event, and answers 0, or leaves the run and answers the refusal's number.
-    pub fn call(&mut self, event: u8) -> u8
+    // Makes the event, or leaves the run and answers why the event is refused.
+    pub fn call(&mut self, event: u8) -> Result<(), Refusal<S::Reason>>
         ensures system { self.new.system ≡ self.old.system }
         ensures state { self.new.state ≡ after ((S.System.meaning self.old.system).gives event self.old.state) self.old.state }
-        ensures answer { result ≡ told ((S.System.meaning self.old.system).gives event self.old.state) }
-        ensures accepted { (result == 0) ≡ is_ok ((S.System.meaning self.old.system).gives event self.old.state) }
+        ensures answer { result ≡ answered ((S.System.meaning self.old.system).gives event self.old.state) }
+        ensures answer_number { told S.Reason.number result ≡ told S.Reason.number ((S.System.meaning self.old.system).gives event self.old.state) }
+        ensures accepted { (told S.Reason.number result == 0) ≡ is_ok ((S.System.meaning self.old.system).gives event self.old.state) }
         ensures stays_fitting { (S.System.meaning self.old.system).fits self.old.state ≡ true → (S.System.meaning self.new.system).fits self.new.state ≡ true }
     {
-        match self.system.next(&self.state, event) {
-            Ok(next) => {
-                self.state = next;
-                0
-            }
-            Err(refusal) => refusal.number(),
-        }
+        self.state = self.system.next(&self.state, event)?;
+        Ok(())
     }
 
     // Makes the events in turn, each refused one leaving the run.
@@ -51,7 +47,7 @@ impl<S: System> Run<S> {
     }
 
     // The event that brings a doomed run nearer to a late state; none is made.
-    pub fn forced(&self) -> Result<u8, Refusal>
+    pub fn forced(&self) -> Result<u8, Refusal<S::Reason>>
         ensures answer { result ≡ (S.System.meaning self.now.system).forced self.now.state }
         ensures accepted { IfOk result (λ event. is_ok ((S.System.meaning self.now.system).gives event self.now.state) ≡ true) }
     {

@@ -4,6 +4,7 @@ ghost use Rattle.transition.specs.Meanings.{Meaning};
 ghost use Rattle.transition.specs.Laws.{Laws};
 
 use crate::refusal::Refusal;
+use numbered_refusals::Numbered;
 
 // A system of states and numbered events.
 //
@@ -14,10 +15,13 @@ pub trait System {
     // `Copy`, so that a state can be held beside the one that follows it.
     type State: Copy;
 
+    // The reasons of the system's own to refuse an event.
+    type Reason: Numbered + Copy;
+
     // How many events there are, at most 10: they number from 1 to this.
     const EVENTS: u8;
 
-    ghost meaning: { Self → Meaning Self.State };
+    ghost meaning: { Self → Meaning Self.State Self.Reason };
 
     // `EVENTS`, in a form that contracts can speak of.
     fn event_count(&self) -> u8
@@ -33,7 +37,7 @@ pub trait System {
 
     // The state that the event leads to, or why it is refused: the state does not fit, is late, there is
     // no such event, or a reason of the system's own, tested in this order.
-    fn next(&self, state: &Self::State, event: u8) -> Result<Self::State, Refusal>
+    fn next(&self, state: &Self::State, event: u8) -> Result<Self::State, Refusal<Self::Reason>>
         ensures { result ≡ (meaning self.now).gives event state.now };
 
     // Whether the forced events, one after another, lead from the state to a late one.
@@ -50,7 +54,7 @@ pub trait System {
         ensures { result ≡ (meaning self.now).simulates a.now b.now };
 
     // The event that brings a doomed state nearer to a late one, or why there is none to tell.
-    fn forced_event(&self, state: &Self::State) -> Result<u8, Refusal>
+    fn forced_event(&self, state: &Self::State) -> Result<u8, Refusal<Self::Reason>>
         ensures { result ≡ (meaning self.now).forced state.now };
 
     ghost lawful: { (s : Self) → Laws (meaning s) };
