@@ -7,7 +7,7 @@ use Rattle.transition.specs.Laws.{Laws}
 use Rattle.transition.specs.Runs.{after}
 use Rattle.verdict.specs.Failures.{Forces}
 
-module _ {X : Type 0} (M : Meaning X) where
+module _ {X R : Type 0} (M : Meaning X R) where
   -- at most how many forced events are left before the state is late
   abbrev pub left : X → ℕ
   left x = cond (M.late x) 0 (M.events_to_miss x)
@@ -59,7 +59,7 @@ module _ {X : Type 0} (M : Meaning X) where
       let same : y ≡ n.0 = a ∙ ap (λ o. after o x) n.1.given in
       subst (Nearer x e) (sym same) n.1
 
-  pub late_at_last : Laws M → (x : X) (r : Refusal) → M.doomed x ≡ true → M.forced x ≡ Err r → M.late x ≡ true
+  pub late_at_last : Laws M → (x : X) (r : Refusal R) → M.doomed x ≡ true → M.forced x ≡ Err r → M.late x ≡ true
   late_at_last W x r d f =
       ⊎_elim
       (λ (late : M.late x ≡ true). late)

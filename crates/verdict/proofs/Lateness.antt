@@ -13,7 +13,7 @@ use Rattle.verdict.specs.Failures.{events_told, Forces, Fails}
 use Rattle.verdict.proofs.Calls.{run_at, same_run, calls_walk}
 use Rattle.verdict.proofs.Replays.{told_whole, replay_walk, forces_replay, soon_doomed}
 
-module _ {S X : Type 0} (means : S → Meaning X) (s : S) (W : Laws (means s)) (vs : List Visit) (h : ShownLate (means s) vs) (events : List ℕ) (told : events ≡ events_told (traced vs (length vs) (length vs))) (new : Run S X) (made : new ≡ calls means (begun means s) events) where
+module _ {S X R : Type 0} (means : S → Meaning X R) (s : S) (W : Laws (means s)) (vs : List Visit) (h : ShownLate (means s) vs) (events : List ℕ) (told : events ≡ events_told (traced vs (length vs) (length vs))) (new : Run S X R) (made : new ≡ calls means (begun means s) events) where
   same : events ≡ h.1.0
   same = told ∙ told_whole vs h.1.0 h.1.1
 
@@ -30,7 +30,7 @@ module _ {S X : Type 0} (means : S → Meaning X) (s : S) (W : Laws (means s)) (
   pub doomed_then : (means new.system).doomed new.state ≡ true
   doomed_then = subst (λ r. (means r.system).doomed r.state ≡ true) (sym arrived) doomed_end
 
-  pub fails : (forced : List ℕ) (run : Run S X) → run.system ≡ new.system → Forces (means new.system) new.state forced run.state → length forced ≤ 1151 → (means new.system).late run.state ≡ true → Fails means s vs events forced run
+  pub fails : (forced : List ℕ) (run : Run S X R) → run.system ≡ new.system → Forces (means new.system) new.state forced run.state → length forced ≤ 1151 → (means new.system).late run.state ≡ true → Fails means s vs events forced run
   fails forced run of f few late =
       let forces : Forces (means s) h.0 forced run.state = subst (λ r. Forces (means r.system) r.state forced run.state) arrived f in
       let all = replay_append (means s) events forced (means s).first h.0 run.state led (forces_replay (means s) forced h.0 run.state forces) in

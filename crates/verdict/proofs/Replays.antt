@@ -44,7 +44,7 @@ told_whole vs es t =
     let fewer = (tracing vs k (length es)).fewer es chain in
     ap events_told (t k ∙ within_room k es (omega (arith, fewer)))
 
-module _ {X : Type 0} (M : Meaning X) where
+module _ {X R : Type 0} (M : Meaning X R) where
   -- events that are all accepted lead where a walk does
   pub replay_walk : (es : List ℕ) (x y : X) → replay M x es ≡ Some y → walk M x es ≡ y
   replay_walk [] x y a = cc

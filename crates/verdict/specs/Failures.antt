@@ -14,12 +14,12 @@ events_told (Ok es) = es
 events_told (Err r) = []
 
 -- each event is the forced one in its moment and is accepted, and they lead from one state to the other
-abbrev pub Forces : {X : Type 0} → Meaning X → X → List ℕ → X → Type 0
+abbrev pub Forces : {X R : Type 0} → Meaning X R → X → List ℕ → X → Type 0
 Forces M x [] z = x ≡ z
 Forces {X} M x (e ∷ es) z = (M.forced x ≡ Ok e) × ((y : X) × (M.gives e x ≡ Ok y) × Forces M y es z)
 
 -- the state is late, by the events of the last visit and the forced ones after them
-pub record LateBy {X : Type 0} (M : Meaning X) (vs : List Visit) (events forced : List ℕ) (end : X) : Type 0 where
+pub record LateBy {X R : Type 0} (M : Meaning X R) (vs : List Visit) (events forced : List ℕ) (end : X) : Type 0 where
   -- tracing the last visit tells the events
   pub told : Traced vs (length vs) events
   -- each is accepted in its turn from the first state on, and they lead to this state, which is doomed
@@ -34,7 +34,7 @@ pub record LateBy {X : Type 0} (M : Meaning X) (vs : List Visit) (events forced 
   pub late : M.late end ≡ true
 
 -- the run is one of the system, calls of the events on a new run leave it, and its state is late by them
-pub record Fails {S X : Type 0} (means : S → Meaning X) (s : S) (vs : List Visit) (events forced : List ℕ) (run : Run S X) : Type 0 where
+pub record Fails {S X R : Type 0} (means : S → Meaning X R) (s : S) (vs : List Visit) (events forced : List ℕ) (run : Run S X R) : Type 0 where
   pub of_system : run.system ≡ s
   pub by_calls : calls means (begun means s) (events ++ forced) ≡ run
   pub late_by : LateBy (means s) vs events forced run.state

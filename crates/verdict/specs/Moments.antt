@@ -5,31 +5,31 @@ use Rattle.transition.specs.declared.run.Run.{Run}
 use Rattle.transition.specs.Meanings.{Meaning}
 use Rattle.transition.specs.Runs.{after}
 
-module _ {S X : Type 0} (means : S → Meaning X) where
+module _ {S X R : Type 0} (means : S → Meaning X R) where
   -- a new run of the system
-  abbrev pub begun : S → Run S X
+  abbrev pub begun : S → Run S X R
   begun s = record { system = s; state = (means s).first }
 
   -- the run that a call of the event leaves; a refused event leaves it as it was
-  abbrev pub called : Run S X → ℕ → Run S X
+  abbrev pub called : Run S X R → ℕ → Run S X R
   called r e = record { system = r.system; state = after ((means r.system).gives e r.state) r.state }
 
   -- the run that calls of the events in turn leave
-  abbrev pub calls : Run S X → List ℕ → Run S X
+  abbrev pub calls : Run S X R → List ℕ → Run S X R
   calls r [] = r
   calls r (e ∷ es) = calls (called r e) es
 
   -- the run at every moment while the events are called, the moment before the first call included
-  abbrev pub moments : Run S X → List ℕ → List (Run S X)
+  abbrev pub moments : Run S X R → List ℕ → List (Run S X R)
   moments r [] = r ∷ []
   moments r (e ∷ es) = r ∷ moments (called r e) es
 
   -- whether what must never happen has happened in the run
-  abbrev pub late_run : Run S X → Bool
+  abbrev pub late_run : Run S X R → Bool
   late_run r = (means r.system).late r.state
 
   -- whether one of the runs is late
-  abbrev pub any_late : List (Run S X) → Bool
+  abbrev pub any_late : List (Run S X R) → Bool
   any_late [] = false
   any_late (r ∷ rs) = late_run r || any_late rs
 

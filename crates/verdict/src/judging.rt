@@ -23,8 +23,8 @@ pub fn judge<S: System + Copy>(
 ) -> Result<Judgement<S>, AllocError>
     ensures never_late { IfOk result (λ j. j.verdict ≡ Verdict.Schedulable → RunsNeverLate S.System.meaning system.now) }
     ensures closed { IfOk result (λ j. j.verdict ≡ Verdict.Schedulable → Closed (S.System.meaning system.now) (states (take j.nodes nodes.new))) }
-    ensures shown_late { IfOk result (λ j. (f : Failure S S.State) → j.verdict ≡ Verdict.Unschedulable f → Fails S.System.meaning system.now (take j.visits visits.new) f.events.items f.forced.items f.run) }
-    ensures ever_late { MatchResult result (λ j. (f : Failure S S.State) → j.verdict ≡ Verdict.Unschedulable f → EverLate (S.System.meaning system.now)) (λ _. EverLate (S.System.meaning system.now)) }
+    ensures shown_late { IfOk result (λ j. (f : Failure S S.State S.Reason) → j.verdict ≡ Verdict.Unschedulable f → Fails S.System.meaning system.now (take j.visits visits.new) f.events.items f.forced.items f.run) }
+    ensures ever_late { MatchResult result (λ j. (f : Failure S S.State S.Reason) → j.verdict ≡ Verdict.Unschedulable f → EverLate (S.System.meaning system.now)) (λ _. EverLate (S.System.meaning system.now)) }
     ensures nodes_honestly_full { IfOk result (λ j. j.verdict ≡ Verdict.NodesFull → NodesHonestlyFull (S.System.meaning system.now) (length nodes.old)) }
     ensures visits_honestly_full { IfOk result (λ j. j.verdict ≡ Verdict.VisitsFull → VisitsHonestlyFull (S.System.meaning system.now) (length visits.old)) }
     ensures too_large { IsTooLarge (length nodes.old) (length visits.old) → (result ≡ Ok (record { verdict = Verdict.TooLarge; nodes = 0; visits = 0 })) × (nodes.new ≡ nodes.old) × (visits.new ≡ visits.old) }
@@ -55,7 +55,7 @@ fn verdict_on<S: System + Copy>(
 ) -> Result<Verdict<S>, AllocError>
     requires { outcome ≡ Outcome.Unschedulable → ShownLate (S.System.meaning system.now) visits.now }
     ensures outcome { IfOk result (λ v. outcome_of v ≡ outcome) }
-    ensures fails { IfOk result (λ v. (f : Failure S S.State) → v ≡ Verdict.Unschedulable f → Fails S.System.meaning system.now visits.now f.events.items f.forced.items f.run) }
+    ensures fails { IfOk result (λ v. (f : Failure S S.State S.Reason) → v ≡ Verdict.Unschedulable f → Fails S.System.meaning system.now visits.now f.events.items f.forced.items f.run) }
     ensures no_memory { OnErr result (outcome ≡ Outcome.Unschedulable) }
 {
     match outcome {
