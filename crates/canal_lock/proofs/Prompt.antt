@@ -6,6 +6,7 @@ use Rattle.transition.specs.declared.refusal.Refusal.{Refusal}
 use Rattle.transition.specs.Runs.{after, walk}
 use Rattle.canal_lock.specs.declared.lock.Lock.{Lock}
 use Rattle.canal_lock.specs.declared.lock.Chamber.{Chamber}
+use Rattle.canal_lock.specs.declared.refusal.LockRefusal.{LockRefusal}
 use Rattle.canal_lock.specs.Locks.{calm, fits, late, doomed, come, tick, gives, meaning}
 use Rattle.canal_lock.specs.Lawful.{accepted, result_fits, late_doomed, first_fits, first_not_doomed}
 
@@ -21,7 +22,7 @@ module _ (l : Lock) (prompt : l.fill < l.patience) where
   tick_spared : (x : Chamber) → fits l x ≡ true → doomed l x ≡ false → doomed l (tick l x) ≡ false
   tick_spared x f s = ⊎_elim (λ (b : x.boat ≡ true). grind (arith, nat_tests)) (λ (b : x.boat ≡ false). grind (arith, nat_tests)) (cases_Bool x.boat)
 
-  safe_next : (e : ℕ) (x : Chamber) (r : Result Chamber Refusal) → gives l e x ≡ r → Safe x → Safe (after r x)
+  safe_next : (e : ℕ) (x : Chamber) (r : Result Chamber (Refusal LockRefusal)) → gives l e x ≡ r → Safe x → Safe (after r x)
   safe_next e x (Err f) g s = s
   safe_next e x (Ok y) g s = record {
     fit = result_fits l e x y s.fit g;

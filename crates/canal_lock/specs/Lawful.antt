@@ -3,9 +3,7 @@ use Rattle.std.specs.Prelude.{◌≡◌, ℕ, ◌-◌, ◌<◌, ◌≤◌, Bool,
 use Rattle.std.proofs.Common.{sym, subst, ◌∙◌, inl, inr, ⊎_elim, arith}
 use Rattle.std.proofs.lemmas.Bool.{and_parts, and_from, eqb-true, leb-true, eq-eqb, le-leb, both_ways, cases_Bool, cases_eq}
 use Rattle.std.proofs.lemmas.Bool.Decides.{nat_tests}
-use Rattle.transition.specs.declared.refusal.Refusal.{Refusal}
 use Rattle.transition.specs.declared.refusal.Refusal.TheVariants.{Late, Lacking, NotDoomed, NotFitting}
-use Rattle.transition.specs.Refusals.{number}
 use Rattle.canal_lock.specs.declared.lock.Lock.{Lock}
 use Rattle.canal_lock.specs.declared.lock.Chamber.{Chamber}
 use Rattle.canal_lock.specs.Locks.{calm, fits, late, doomed, come, tick, gives, forced, simulates, alike}
@@ -45,9 +43,6 @@ late_refuses l e x f = grind (arith, nat_tests)
 
 pub lacking_refused : (l : Lock) (e : ℕ) (x : Chamber) → fits l x ≡ true → late l x ≡ false → (e ≡ 0) ⊎ (2 < e) → gives l e x ≡ Err Lacking
 lacking_refused l e x f n o = grind (arith, nat_tests)
-
-pub refusal_numbered : (l : Lock) (e : ℕ) (x : Chamber) (r : Refusal) → gives l e x ≡ Err r → 0 < number r
-refusal_numbered l e x r g = grind (arith, nat_tests)
 
 -- what it takes for a chamber to simulate another
 record Parts (l : Lock) (x y : Chamber) : Type 0 where

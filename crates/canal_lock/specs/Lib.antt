@@ -1,3 +1,4 @@
+pub mod Refusals
 pub mod Locks
 pub mod Laws
 pub mod Lawful

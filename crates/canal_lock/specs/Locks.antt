@@ -5,6 +5,8 @@ use Rattle.transition.specs.declared.refusal.Refusal.TheVariants.{Late, Lacking,
 use Rattle.transition.specs.Meanings.{Meaning}
 use Rattle.canal_lock.specs.declared.lock.Lock.{Lock}
 use Rattle.canal_lock.specs.declared.lock.Chamber.{Chamber}
+use Rattle.canal_lock.specs.declared.refusal.LockRefusal.{LockRefusal}
+use Rattle.canal_lock.specs.declared.refusal.LockRefusal.TheVariants.{OneWaits, TooSoon}
 
 -- the chamber is ready and no boat has come yet
 abbrev pub calm : Chamber
@@ -38,20 +40,20 @@ wait_on x = record { turn = x.turn - 1; boat = x.boat; wait = cond x.boat (x.wai
 abbrev pub tick : Lock → Chamber → Chamber
 tick l x = cond (x.boat && x.turn == 0) (through l x) (wait_on x)
 
--- a boat comes only where none waits (1), and not too soon after the one before (2)
-abbrev pub arrival : Lock → Chamber → Result Chamber Refusal
-arrival l x = cond x.boat (Err (Own 1)) (cond (x.pause == 0) (Ok (come l x)) (Err (Own 2)))
+-- a boat comes only where none waits, and not too soon after the one before
+abbrev pub arrival : Lock → Chamber → Result Chamber (Refusal LockRefusal)
+arrival l x = cond x.boat (Err (Own OneWaits)) (cond (x.pause == 0) (Ok (come l x)) (Err (Own TooSoon)))
 
 -- what an event gives in a fitting state that is not late
-abbrev pub happens : Lock → ℕ → Chamber → Result Chamber Refusal
+abbrev pub happens : Lock → ℕ → Chamber → Result Chamber (Refusal LockRefusal)
 happens l e x = cond (e == 1) (arrival l x) (cond (e == 2) (Ok (tick l x)) (Err Lacking))
 
 -- what an event gives, or why it is refused
-abbrev pub gives : Lock → ℕ → Chamber → Result Chamber Refusal
+abbrev pub gives : Lock → ℕ → Chamber → Result Chamber (Refusal LockRefusal)
 gives l e x = cond (fits l x) (cond (late l x) (Err Late) (happens l e x)) (Err NotFitting)
 
 -- a tick brings a doomed boat nearer to being late
-abbrev pub forced : Lock → Chamber → Result ℕ Refusal
+abbrev pub forced : Lock → Chamber → Result ℕ (Refusal LockRefusal)
 forced l x = cond (fits l x) (cond (late l x) (Err Late) (cond (doomed l x) (Ok 2) (Err NotDoomed))) (Err NotFitting)
 
 -- two tests that come out alike
@@ -63,7 +65,7 @@ abbrev pub simulates : Lock → Chamber → Chamber → Bool
 simulates l x y = (fits l x && fits l y) && ((x.turn == y.turn && alike x.boat y.boat) && (x.wait == y.wait && nat_le x.pause y.pause))
 
 -- the lock as a transition system
-abbrev pub meaning : Lock → Meaning Chamber
+abbrev pub meaning : Lock → Meaning Chamber LockRefusal
 meaning l = record {
   count = 2;
   fits = fits l;

@@ -2,6 +2,8 @@
 #![tactic(auto)]
 
 pub mod lock;
+pub mod refusal;
 pub mod system;
 
 pub use lock::{Chamber, Lock};
+pub use refusal::LockRefusal;

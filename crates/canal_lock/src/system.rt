@@ -5,6 +5,7 @@ ghost use Rattle.canal_lock.specs.Locks.{arrival, calm, late, meaning, tick};
 ghost use Rattle.canal_lock.specs.Laws;
 
 use crate::lock::{Chamber, Lock};
+use crate::refusal::LockRefusal;
 use transition::{Refusal, System};
 
 // the event that a boat comes
@@ -13,14 +14,10 @@ const COMES: u8 = 1;
 // the event that one tick of time goes by
 const TICK: u8 = 2;
 
-// why no boat comes: one waits already
-const ONE_WAITS: u8 = 1;
-
-// why no boat comes: the one before came too short a time ago
-const TOO_SOON: u8 = 2;
-
 impl System for Lock {
     type State = Chamber;
+
+    type Reason = LockRefusal;
 
     const EVENTS: u8 = 2;
 
@@ -48,7 +45,7 @@ impl System for Lock {
             && (state.boat || state.wait == 0)
     }
 
-    fn next(&self, state: &Chamber, event: u8) -> Result<Chamber, Refusal> {
+    fn next(&self, state: &Chamber, event: u8) -> Result<Chamber, Refusal<LockRefusal>> {
         if !self.fits(state) {
             return Err(Refusal::NotFitting);
         }
@@ -81,7 +78,7 @@ impl System for Lock {
             && a.pause <= b.pause
     }
 
-    fn forced_event(&self, state: &Chamber) -> Result<u8, Refusal> {
+    fn forced_event(&self, state: &Chamber) -> Result<u8, Refusal<LockRefusal>> {
         if !self.fits(state) {
             return Err(Refusal::NotFitting);
         }
@@ -106,14 +103,14 @@ impl Lock {
     }
 
     // A boat comes, or why none does.
-    fn boat_comes(&self, state: &Chamber) -> Result<Chamber, Refusal>
+    fn boat_comes(&self, state: &Chamber) -> Result<Chamber, Refusal<LockRefusal>>
         ensures { result ≡ arrival self.now state.now }
     {
         if state.boat {
-            return Err(Refusal::Own(ONE_WAITS));
+            return Err(Refusal::Own(LockRefusal::OneWaits));
         }
         if state.pause > 0 {
-            return Err(Refusal::Own(TOO_SOON));
+            return Err(Refusal::Own(LockRefusal::TooSoon));
         }
         Ok(Chamber {
             turn: state.turn,
