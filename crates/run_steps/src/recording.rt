@@ -12,7 +12,7 @@ pub fn record_steps<S: System>(
     heap: Global,
     run: &mut Run<S>,
     events: &[u8],
-) -> Result<Vec<Step<S::State>>, AllocError>
+) -> Result<Vec<Step<S::State, S::Reason>>, AllocError>
     ensures system { run.new.system ≡ run.old.system }
     ensures steps { IfOk result (λ v. v.items ≡ steps (S.System.meaning run.old.system) run.old.state events.now) }
     ensures tell { IfOk result (λ v. Tell (S.System.meaning run.old.system) run.old.state events.now v.items) }

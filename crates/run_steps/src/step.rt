@@ -1,9 +1,26 @@
 // One event of a run.
+ghost use Rattle.std.specs.Prelude.{◌≡◌};
+ghost use Rattle.transition.specs.Runs.{told as told_by};
 
-// The event, what the run answered (0 where it accepted, else the refusal's number), and the state after it.
+use numbered_refusals::Numbered;
+use transition::Refusal;
+
+// The event, what the run answered, and the state after it.
 #[derive(Clone, Copy, Debug, PartialEq, Eq)]
-pub struct Step<T> {
+pub struct Step<T, R> {
     pub event: u8,
-    pub answer: u8,
+    pub answer: Result<(), Refusal<R>>,
     pub state: T,
+}
+
+impl<T, R: Numbered> Step<T, R> {
+    // The number by which the answer is told: 0 where the event is accepted, else the refusal's.
+    pub fn told(&self) -> u8
+        ensures { result ≡ told_by R.number self.now.answer }
+    {
+        match &self.answer {
+            Ok(()) => 0,
+            Err(refusal) => refusal.number(),
+        }
+    }
 }

@@ -1,6 +1,6 @@
 use Rattle.std.proofs.Common.{◌≡◌, ◌+◌, ◌++◌, get_or, drop, vec_items, sym, refl, ap, ◌∙◌, append-nil, arith}
 use Rattle.std.proofs.lemmas.List.{at_drop_all}
-use Rattle.transition.specs.Runs.{after, told, walk}
+use Rattle.transition.specs.Runs.{after, answered, walk}
 use Rattle.transition.proofs.Walks.{walk_more}
 use Rattle.run_steps.specs.Steps.{steps}
 use Rattle.run_steps.proofs.Tells.{tells, steps_more, step_is}
@@ -14,7 +14,7 @@ loop-event-preserved g c =
     let e = get_or c.args.events.now c.loop-event.event-index 0 in
     let M = meaning c.args.run.now.system in
     let next : c.call-answer.new.self.state ≡ after (M.gives e x) x = c.call-answer.ensures.state ∙ ap (λ s. after ((meaning s).gives e x) x) same in
-    let answer : c.call-answer.result ≡ told (M.gives e x) = c.call-answer.ensures.answer ∙ ap (λ s. told ((meaning s).gives e x)) same in
+    let answer : c.call-answer.result ≡ answered (M.gives e x) = c.call-answer.ensures.answer ∙ ap (λ s. answered ((meaning s).gives e x)) same in
     let made = step_is M x e e _ _ refl answer (c.state.ensures ∙ next) in (
       c.call-answer.ensures.system ∙ same,
       ap (λ ys. ys ++ steps M c.call-answer.new.self.state (drop (c.loop-event.event-index + 1) c.args.events.now)) c.in_ok-push.ensures.items
