@@ -1,6 +1,7 @@
 // Why the events that lead to a visit are not told.
-ghost use Rattle.std.specs.Prelude.{◌≡◌};
-ghost use Rattle.exploration.specs.TraceRefusals.{number};
+ghost use Rattle.exploration.specs.TraceRefusals.{number as number_of, number_positive};
+
+use numbered_refusals::Numbered;
 
 #[derive(Clone, Copy, Debug, PartialEq, Eq)]
 pub enum TraceRefusal {
@@ -12,11 +13,12 @@ pub enum TraceRefusal {
     ListTooShort,
 }
 
-impl TraceRefusal {
-    // The number by which the refusal is told.
-    pub fn number(self) -> u8
-        ensures { result ≡ number self }
-    {
+impl Numbered for TraceRefusal {
+    ghost number = { number_of };
+
+    ghost positive = { λ refusal. number_positive refusal };
+
+    fn number(&self) -> u8 {
         match self {
             TraceRefusal::NoSuchVisit => 13,
             TraceRefusal::BrokenChain => 14,

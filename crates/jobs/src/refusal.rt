@@ -1,6 +1,7 @@
 // Why a state refuses an event.
-ghost use Rattle.std.specs.Prelude.{◌≡◌};
-ghost use Rattle.jobs.specs.Refusals.{number};
+ghost use Rattle.jobs.specs.Refusals.{number as number_of, number_positive};
+
+use numbered_refusals::Numbered;
 
 #[derive(Clone, Copy, Debug, PartialEq, Eq)]
 pub enum JobRefusal {
@@ -20,11 +21,12 @@ pub enum JobRefusal {
     NotFitting,
 }
 
-impl JobRefusal {
-    // The number by which the refusal is told.
-    pub fn number(self) -> u8
-        ensures { result ≡ number self }
-    {
+impl Numbered for JobRefusal {
+    ghost number = { number_of };
+
+    ghost positive = { λ refusal. number_positive refusal };
+
+    fn number(&self) -> u8 {
         match self {
             JobRefusal::NoTask => 4,
             JobRefusal::TaskDropped => 5,

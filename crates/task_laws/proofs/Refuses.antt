@@ -33,7 +33,7 @@ Answer = Result State Refusal
 
 -- an answer that refuses only with a number above 0
 abbrev Numbers : Answer → Type 0
-Numbers a = (r : Refusal) → a ≡ Err r → 0 < number r
+Numbers a = (r : Refusal R) → a ≡ Err r → 0 < number r
 
 ok_numbers : (s : State) → Numbers (Ok s)
 ok_numbers s r e = let z : ◌≡◌ {A = ℕ} 0 1 = cc in absurd (omega arith)
