@@ -28,16 +28,16 @@ use Rattle.task_laws.proofs.Jobwise.{jobwise, released_at}
 use Rattle.task_laws.proofs.Steps.{steps_tick}
 
 abbrev Answer : Type 0
-Answer = Result State Refusal
+Answer = Result State (Refusal JobRefusal)
 
-err_ok : {Y : Type 0} (n : Refusal) (w : State) → ◌≡◌ {A = Answer} (Err n) (Ok w) → Y
+err_ok : {Y : Type 0} (n : Refusal JobRefusal) (w : State) → ◌≡◌ {A = Answer} (Err n) (Ok w) → Y
 err_ok n w e = let z : ◌≡◌ {A = ℕ} 0 1 = cc in absurd (omega arith)
 
-passed : (b : Bool) (x : Answer) (n : Refusal) (w : State) → cond b x (Err n) ≡ Ok w → (b ≡ true) × (x ≡ Ok w)
+passed : (b : Bool) (x : Answer) (n : Refusal JobRefusal) (w : State) → cond b x (Err n) ≡ Ok w → (b ≡ true) × (x ≡ Ok w)
 passed true x n w e = (refl, e)
 passed false x n w e = err_ok n w e
 
-spared : (b : Bool) (x : Answer) (n : Refusal) (w : State) → cond b (Err n) x ≡ Ok w → (b ≡ false) × (x ≡ Ok w)
+spared : (b : Bool) (x : Answer) (n : Refusal JobRefusal) (w : State) → cond b (Err n) x ≡ Ok w → (b ≡ false) × (x ≡ Ok w)
 spared true x n w e = err_ok n w e
 spared false x n w e = (refl, e)
 

@@ -25,7 +25,7 @@ use Rattle.task_laws.proofs.Gives.{Gave, releases, ticks, accepted, accepts}
 use Rattle.task_laws.proofs.Keeps.{ticked_follows, idle_there, released_follows}
 use Rattle.task_laws.proofs.Targets.{unmarked}
 use Rattle.task_laws.proofs.Forces.{Lost, lost, soon, goes}
-use Rattle.task_laws.proofs.Refuses.{unfit, stuck, punctual, lacking, numbers, unfit_forced, late_forced}
+use Rattle.task_laws.proofs.Refuses.{unfit, stuck, punctual, lacking, unfit_forced, late_forced}
 
 none_absent : (k : Kind) (n : ℕ) → all_absent (first_jobs k [] n) ≡ true
 none_absent k zero = refl
@@ -125,7 +125,6 @@ module _ (pick : Pick) (kind : Kind) (tasks : List Task) (T : Table tasks) (L : 
     unfit_refuses = unfit pick kind tasks T;
     late_refuses = stuck pick kind tasks T;
     lacking_refused = lacking pick kind tasks T;
-    refusal_numbered = numbers pick kind tasks T;
     simulates_fits = both_fit;
     simulates_itself = λ x e. simulated kind tasks x x (fitted kind tasks T x e);
     simulates_through = λ x y z p q. simulated kind tasks x z (joined kind tasks x y z (follows kind tasks T x y p) (follows kind tasks T y z q));

@@ -11,7 +11,6 @@ use Rattle.job_state.specs.declared.state.State.{State}
 use Rattle.jobs.specs.declared.refusal.JobRefusal.{JobRefusal}
 use Rattle.jobs.specs.declared.refusal.JobRefusal as job_refusal
 use Rattle.jobs.specs.declared.refusal.JobRefusal.TheVariants.{NoTask, TaskDropped, StillReady, Waiting, NonePicked, TaskDue}
-use Rattle.jobs.specs.Refusals.{number}
 use Rattle.jobs.specs.Jobs.{time_to_deadline, worst_laxity, due_job}
 use Rattle.job_state.specs.Lists.{lowest}
 use Rattle.job_state.specs.States.{first, fits, late, doomed, due}
@@ -25,17 +24,17 @@ use Rattle.transition.specs.declared.refusal.Refusal.TheVariants.{Late, Lacking,
 use Rattle.transition.specs.Meanings.{Meaning}
 
 -- how a refusal of a state is told by the system
-abbrev pub told : JobRefusal → Refusal
+abbrev pub told : JobRefusal → Refusal JobRefusal
 told NoTask = Lacking
-told TaskDropped = Own (number TaskDropped)
-told StillReady = Own (number StillReady)
-told Waiting = Own (number Waiting)
-told NonePicked = Own (number NonePicked)
-told TaskDue = Own (number TaskDue)
+told TaskDropped = Own TaskDropped
+told StillReady = Own StillReady
+told Waiting = Own Waiting
+told NonePicked = Own NonePicked
+told TaskDue = Own TaskDue
 told job_refusal.TheVariants.NotFitting = NotFitting
 
 -- the state, where the answer accepts it
-abbrev pub accepted_as : Result (Unit {0}) JobRefusal → State → Result State Refusal
+abbrev pub accepted_as : Result (Unit {0}) JobRefusal → State → Result State (Refusal JobRefusal)
 accepted_as (Ok u) s = Ok s
 accepted_as (Err r) s = Err (told r)
 
@@ -126,29 +125,29 @@ module _ (pick : Pick) (kind : Kind) (tasks : List Task) where
   picked s = pick tasks s.mode s.jobs
 
   -- a release of the task of that number
-  abbrev pub release : ℕ → State → Result State Refusal
+  abbrev pub release : ℕ → State → Result State (Refusal JobRefusal)
   release n s = accepted_as (release_answer tasks n s) (released tasks n s)
 
   -- a tick: none while a task is due, and none that finishes nobody
-  abbrev pub tick : Bool → State → Result State Refusal
+  abbrev pub tick : Bool → State → Result State (Refusal JobRefusal)
   tick finishing s = cond (due kind tasks s) (Err (told TaskDue)) (cond (finishing && not (is_some (picked s))) (Err (told NonePicked)) (Ok (ticked tasks finishing (picked s) s)))
 
   -- events 1 to 8 release a task, 9 is a tick, 10 a finishing tick
-  abbrev pub event : ℕ → State → Result State Refusal
+  abbrev pub event : ℕ → State → Result State (Refusal JobRefusal)
   event e s = cond (e == 9) (tick false s) (cond (e == 10) (tick true s) (release e s))
 
-  unfoldable pub gives : ℕ → State → Result State Refusal
+  unfoldable pub gives : ℕ → State → Result State (Refusal JobRefusal)
   gives e s = cond (fits kind tasks s) (cond (late tasks s) (Err Late) (event e s)) (Err NotFitting)
 
-  abbrev pub forced_to : Option Best → State → Result ℕ Refusal
+  abbrev pub forced_to : Option Best → State → Result ℕ (Refusal JobRefusal)
   forced_to None s = Err NotDoomed
   forced_to (Some b) s = Ok (forced_by (lowest (λ _. due_job kind) 0 tasks s.jobs) (picked s) s.mode b.number)
 
-  unfoldable pub forced : State → Result ℕ Refusal
+  unfoldable pub forced : State → Result ℕ (Refusal JobRefusal)
   forced s = cond (fits kind tasks s) (cond (late tasks s) (Err Late) (forced_to (target kind tasks s) s)) (Err NotFitting)
 
   -- the tasks under that policy, as a system
-  abbrev pub meaning : Meaning State
+  abbrev pub meaning : Meaning State JobRefusal
   meaning = record {
     count = 10;
     fits = fits kind tasks;

@@ -6,7 +6,7 @@ use job_state::State;
 use jobs::JobRefusal;
 use transition::Refusal;
 
-pub(crate) fn tell(refusal: JobRefusal) -> Refusal
+pub(crate) fn tell(refusal: JobRefusal) -> Refusal<JobRefusal>
     ensures { result ≡ told refusal }
 {
     match refusal {
@@ -16,16 +16,13 @@ pub(crate) fn tell(refusal: JobRefusal) -> Refusal
         | JobRefusal::StillReady
         | JobRefusal::Waiting
         | JobRefusal::NonePicked
-        | JobRefusal::TaskDue => Refusal::Own(refusal.number()),
+        | JobRefusal::TaskDue => Refusal::Own(refusal),
     }
 }
 
 // The state, where the answer accepts it.
-pub(crate) fn accept(answer: Result<(), JobRefusal>, state: State) -> Result<State, Refusal>
+pub(crate) fn accept(answer: Result<(), JobRefusal>, state: State) -> Result<State, Refusal<JobRefusal>>
     ensures { result ≡ accepted_as answer state }
 {
-    match answer {
-        Ok(()) => Ok(state),
-        Err(refusal) => Err(tell(refusal)),
-    }
+    answer.map(|()| state).map_err(tell)
 }

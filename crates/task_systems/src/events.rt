@@ -22,7 +22,7 @@ pub(crate) fn next<P: Policy>(
     tasks: &[Task],
     state: &State,
     event: u8,
-) -> Result<State, Refusal>
+) -> Result<State, Refusal<JobRefusal>>
     ensures { result ≡ gives (P.Policy.picks policy.now) kind tasks.now event state.now }
 {
     if !state.fits(kind, tasks) {
@@ -46,7 +46,7 @@ fn release<P: Policy>(
     tasks: &[Task],
     state: &State,
     event: u8,
-) -> Result<State, Refusal>
+) -> Result<State, Refusal<JobRefusal>>
     ensures { result ≡ released_event (P.Policy.picks policy.now) kind tasks.now event state.now }
 {
     let mut next = *state;
@@ -61,7 +61,7 @@ fn tick<P: Policy>(
     tasks: &[Task],
     state: &State,
     finishing: bool,
-) -> Result<State, Refusal>
+) -> Result<State, Refusal<JobRefusal>>
     requires { fits kind tasks.now state.now ≡ true }
     ensures { result ≡ ticked_event (P.Policy.picks policy.now) kind tasks.now finishing state.now }
 {

@@ -3,7 +3,7 @@ ghost use Rattle.std.specs.Prelude.{◌≡◌, ◌≤◌, length, IfSome};
 ghost use Rattle.task_laws.specs.Systems.{by_doom, forced_by, forced};
 
 use job_state::State;
-use jobs::Kind;
+use jobs::{JobRefusal, Kind};
 use jobs::figures::{time_to_deadline, worst_laxity};
 use policies::Policy;
 use policies::figure::Figure;
@@ -33,7 +33,7 @@ pub(crate) fn forced_event<P: Policy>(
     policy: &P,
     tasks: &[Task],
     state: &State,
-) -> Result<u8, Refusal>
+) -> Result<u8, Refusal<JobRefusal>>
     requires { length tasks.now ≤ 8 }
     ensures { result ≡ forced (P.Policy.picks policy.now) kind tasks.now state.now }
 {

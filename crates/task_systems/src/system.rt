@@ -12,6 +12,7 @@ use crate::lateness::{is_doomed_in, is_late_in};
 use crate::releases::Releases;
 use crate::simulation::does_simulate;
 use job_state::State;
+use jobs::JobRefusal;
 use policies::Policy;
 use task_table::table::TaskTable;
 use transition::{Refusal, System};
@@ -40,6 +41,8 @@ impl<R, P> TaskSystem<R, P> {
 impl<R: Releases, P: Policy> System for TaskSystem<R, P> {
     type State = State;
 
+    type Reason = JobRefusal;
+
     const EVENTS: u8 = EVENT_COUNT;
 
     ghost meaning = { λ s. means (P.Policy.picks s.policy) (R.Releases.comes s.releases) (tasks_of s.table) };
@@ -58,7 +61,7 @@ impl<R: Releases, P: Policy> System for TaskSystem<R, P> {
         state.fits(self.releases.kind(), self.table.tasks())
     }
 
-    fn next(&self, state: &State, event: u8) -> Result<State, Refusal> {
+    fn next(&self, state: &State, event: u8) -> Result<State, Refusal<JobRefusal>> {
         let kind = self.releases.kind();
         next_state(kind, &self.policy, self.table.tasks(), state, event)
     }
@@ -78,7 +81,7 @@ impl<R: Releases, P: Policy> System for TaskSystem<R, P> {
         does_simulate(self.releases.kind(), self.table.tasks(), a, b)
     }
 
-    fn forced_event(&self, state: &State) -> Result<u8, Refusal> {
+    fn forced_event(&self, state: &State) -> Result<u8, Refusal<JobRefusal>> {
         let kind = self.releases.kind();
         force(kind, &self.policy, self.table.tasks(), state)
     }
