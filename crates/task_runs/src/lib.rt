@@ -4,5 +4,5 @@
 pub mod recording;
 pub mod ticking;
 
-pub use recording::record_run;
-pub use ticking::{Tick, list_ticks};
+pub use recording::{TaskStep, record_run};
+pub use ticking::{Tick, is_tick, list_ticks};

@@ -2,9 +2,9 @@
 ghost use Rattle.std.specs.Prelude.{◌≡◌, ◌&&◌, ◌||◌, IfOk};
 ghost use Rattle.task_runs.specs.Ticking.{is_tick, ticks};
 
+use crate::recording::TaskStep;
 use job_state::State;
 use policies::Policy;
-use run_steps::Step;
 use std::alloc::{AllocError, Global};
 use task_table::task::Task;
 
@@ -21,7 +21,7 @@ pub fn list_ticks<P: Policy>(
     policy: &P,
     tasks: &[Task],
     first: State,
-    steps: &[Step<State>],
+    steps: &[TaskStep],
 ) -> Result<Vec<Tick>, AllocError>
     ensures { IfOk result (λ v. v.items ≡ ticks (P.Policy.picks policy.now) tasks.now first steps.now) }
 {
@@ -37,9 +37,9 @@ pub fn list_ticks<P: Policy>(
     Ok(listed)
 }
 
-// Whether time went on at the step.
-fn is_tick(step: &Step<State>) -> bool
+// Whether time went on at the step: an accepted tick, finishing or not.
+pub fn is_tick(step: &TaskStep) -> bool
     ensures { result ≡ is_tick step.now }
 {
-    step.answer == 0 && (step.event == 9 || step.event == 10)
+    step.answer.is_ok() && (step.event == 9 || step.event == 10)
 }
