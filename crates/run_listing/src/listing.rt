@@ -1,10 +1,10 @@
 // A run in lines.
 use crate::words::{reason, width};
 use job_state::State;
-use run_steps::Step;
+use numbered_refusals::Numbered;
 use run_words::JobWord;
 use std::fmt;
-use task_runs::Tick;
+use task_runs::{TaskStep, Tick, is_tick};
 use task_table::mode::Mode;
 use task_table::task::Task;
 
@@ -13,7 +13,7 @@ use task_table::task::Task;
 pub struct Listing<'a> {
     pub tasks: &'a [Task],
     pub first: State,
-    pub steps: &'a [Step<State>],
+    pub steps: &'a [TaskStep],
     pub ticks: &'a [Tick],
     pub forced: usize,
 }
@@ -27,7 +27,7 @@ impl fmt::Display for Listing<'_> {
         let mut clock = 0usize;
         for (i, step) in self.steps.iter().enumerate() {
             let ran = self.ran_at(step, clock);
-            if is_accepted_tick(step) {
+            if is_tick(step) {
                 clock = clock.saturating_add(1);
             }
             write_state(f, clock, self.tasks.len(), &step.state)?;
@@ -45,8 +45,8 @@ impl fmt::Display for Listing<'_> {
 
 impl Listing<'_> {
     // The task that ran at the step, where it is a tick.
-    fn ran_at(&self, step: &Step<State>, clock: usize) -> Option<usize> {
-        if !is_accepted_tick(step) {
+    fn ran_at(&self, step: &TaskStep, clock: usize) -> Option<usize> {
+        if !is_tick(step) {
             return None;
         }
         match self.ticks.get(clock) {
@@ -54,10 +54,6 @@ impl Listing<'_> {
             None => None,
         }
     }
-}
-
-fn is_accepted_tick(step: &Step<State>) -> bool {
-    step.answer == 0 && (step.event == 9 || step.event == 10)
 }
 
 fn write_head<W: fmt::Write>(f: &mut fmt::Formatter<W>, tasks: usize) -> fmt::Result {
@@ -92,12 +88,11 @@ fn write_state<W: fmt::Write>(
 
 fn write_event<W: fmt::Write>(
     f: &mut fmt::Formatter<W>,
-    step: &Step<State>,
+    step: &TaskStep,
     ran: Option<usize>,
     forced: bool,
 ) -> fmt::Result {
     let event = step.event;
-    let answer = step.answer;
     write!(f, "{event}: ")?;
     if forced {
         write!(f, "forced ")?;
@@ -108,10 +103,13 @@ fn write_event<W: fmt::Write>(
         10 => write!(f, "finishing tick")?,
         _ => write!(f, "no event")?,
     }
-    if answer != 0 {
-        return write!(f, ", refused with {answer}: {}", reason(answer));
+    match &step.answer {
+        Ok(()) => write_ran(f, event, ran),
+        Err(refusal) => {
+            let number = refusal.number();
+            write!(f, ", refused with {number}: {}", reason(refusal))
+        }
     }
-    write_ran(f, event, ran)
 }
 
 fn write_ran<W: fmt::Write>(
