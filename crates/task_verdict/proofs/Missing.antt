@@ -4,6 +4,7 @@ use Rattle.std.specs.List.{AllByRecursion}
 use Rattle.std.proofs.lemmas.Bool.Decides.{nat_tests}
 use Rattle.task_table.specs.declared.task.Task.{Task}
 use Rattle.jobs.specs.declared.kind.Kind.{Kind}
+use Rattle.jobs.specs.declared.refusal.JobRefusal.{JobRefusal}
 use Rattle.job_state.specs.declared.state.State.{State}
 use Rattle.job_state.specs.States.{fits, first, late}
 use Rattle.policies.specs.Picks.{Pick}
@@ -24,7 +25,7 @@ module _ (kind : Kind) (tasks : List Task) where
   in_time s f h = rw f at h
 
 module _ (pick : Pick) (kind : Kind) (tasks : List Task) (W : Laws (meaning pick kind tasks)) where
-  after_fits : (e : ℕ) (s : State) (o : Result State Refusal) → gives pick kind tasks e s ≡ o → fits kind tasks s ≡ true → fits kind tasks (after o s) ≡ true
+  after_fits : (e : ℕ) (s : State) (o : Result State (Refusal JobRefusal)) → gives pick kind tasks e s ≡ o → fits kind tasks s ≡ true → fits kind tasks (after o s) ≡ true
   after_fits e s (Ok t) g f = W.result_fits e s t f g
   after_fits e s (Err r) g f = f
 

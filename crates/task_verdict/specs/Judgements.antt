@@ -24,7 +24,7 @@ pub record Lent : Type 0 where
   pub nodes : List (Node State)
   pub visits : List Visit
 
-module _ (M : Meaning State) (l : Lent) where
+module _ {R : Type 0} (M : Meaning State R) (l : Lent) where
   abbrev most_nodes : ℕ
   most_nodes = length l.nodes_before
 

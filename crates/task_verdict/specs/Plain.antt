@@ -8,7 +8,7 @@ use Rattle.task_verdict.specs.declared.finding.TaskVerdict.{TaskVerdict}
 use Rattle.task_verdict.specs.declared.finding.TaskVerdict.TheVariants.{Schedulable, Unschedulable, TooLarge, VisitsFull, NodesFull}
 
 -- the verdict without the run
-abbrev pub plain : {S : Type 0} → Verdict S State → TaskVerdict
+abbrev pub plain : {S R : Type 0} → Verdict S State R → TaskVerdict
 plain verdict.Schedulable = Schedulable
 plain (verdict.Unschedulable f) = Unschedulable (record { events = f.events; forced = f.forced; state = f.run.state })
 plain verdict.TooLarge = TooLarge

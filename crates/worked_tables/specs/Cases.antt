@@ -6,7 +6,9 @@ use Rattle.jobs.specs.declared.kind.Kind.{Kind}
 use Rattle.jobs.specs.declared.job.Job.{Job}
 use Rattle.jobs.specs.declared.job.Job.TheVariants.{Absent, Idle, Ready, Dropped}
 use Rattle.job_state.specs.declared.state.State.{State}
+use Rattle.jobs.specs.declared.refusal.JobRefusal.{JobRefusal}
 use Rattle.jobs.specs.Jobs.{worst_laxity}
+use Rattle.jobs.specs.Refusals.{number}
 use Rattle.policies.specs.Picks.{Pick}
 use Rattle.policies.specs.Leasts.{least}
 use Rattle.policies.specs.Figures.{by_deadline}
@@ -24,7 +26,7 @@ Answered = ℕ × ℕ
 pub record Lateness : Type 0 where
   pub doomed : Bool
   pub late : Bool
-  pub forced : Result ℕ Refusal
+  pub forced : Result ℕ (Refusal JobRefusal)
 
 -- what is made on which tasks, and what is written of it
 pub record Case : Type 0 where
@@ -58,10 +60,10 @@ laxities_after m k [] xs = []
 laxities_after m k (t ∷ ts) [] = []
 laxities_after m k (t ∷ ts) (x ∷ xs) = laxity m (k + 1) t x ++ laxities_after m (k + 1) ts xs
 
-module _ (M : Meaning State) where
+module _ (M : Meaning State JobRefusal) where
   -- the event with the answer that it gets in the state
   abbrev pub answered : State → ℕ → Answered
-  answered s e = (e, told (M.gives e s))
+  answered s e = (e, told number (M.gives e s))
 
   -- the events made in turn, each with its answer
   abbrev pub answered_all : State → List ℕ → List Answered
@@ -79,7 +81,7 @@ events qs = map (λ q. q.0) qs
 -- the case with all that is seen as the definitions have it, under earliest deadline
 abbrev pub computed : Case → Case
 computed c =
-    let M : Meaning State = meaning earliest c.kind c.tasks in
+    let M : Meaning State JobRefusal = meaning earliest c.kind c.tasks in
     let s : State = walk M M.first (events c.made) in
     record {
       tasks = c.tasks;

@@ -4,6 +4,7 @@ use Rattle.std.proofs.lemmas.Result.{IfOk-weaker}
 use Rattle.task_table.specs.declared.table.TaskTable.{TaskTable}
 use Rattle.task_table.specs.Tables.{tasks_of}
 use Rattle.jobs.specs.declared.kind.Kind.{Kind}
+use Rattle.jobs.specs.declared.refusal.JobRefusal.{JobRefusal}
 use Rattle.job_state.specs.declared.state.State.{State}
 use Rattle.job_state.specs.States.{late}
 use Rattle.policies.specs.Picks.{Pick}
@@ -25,7 +26,7 @@ told_of : {P : Type 0} (picks : P → Pick) (made_policy policy : P) (made_table
 told_of picks made_policy policy made_table table k kind l r p t is h =
     let same : meaning (picks made_policy) k (tasks_of made_table) ≡ meaning (picks policy) kind (tasks_of table) =
     ap (λ q. meaning (picks q) k (tasks_of made_table)) p ∙ ap (λ q. meaning (picks policy) k (tasks_of q)) t ∙ ap (λ q. meaning (picks policy) q (tasks_of table)) (sym is) in
-    subst (λ (M : Meaning State). Judged M l r) same h
+    subst (λ (M : Meaning State JobRefusal). Judged M l r) same h
 
 module _ (pick : Pick) (kept : Lawful pick) (kind : Kind) (table : TaskTable) (l : Lent) (r : Result TaskJudgement AllocError) (h : Judged (meaning pick kind (tasks_of table)) l r) where
   none_late : IfOk r (λ j. j.verdict ≡ Schedulable → NeverMisses pick kind (tasks_of table))
