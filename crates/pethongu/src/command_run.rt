@@ -9,10 +9,9 @@ use job_state::State;
 use policies::Choice;
 use policy_choice::choose_policy;
 use run_listing::Listing;
-use run_steps::Step;
 use run_timeline::Timeline;
 use run_words::StateWords;
-use task_runs::{list_ticks, record_run};
+use task_runs::{TaskStep, list_ticks, record_run};
 use task_table::table::TaskTable;
 
 // Makes the events on a new run of the table, and prints what comes of each.
@@ -60,7 +59,7 @@ fn print_lines(
     rt: &HostRuntime,
     tasks: usize,
     first: State,
-    steps: &[Step<State>],
+    steps: &[TaskStep],
 ) -> Result<(), Trouble> {
     let state = StateWords {
         tasks,
@@ -69,7 +68,7 @@ fn print_lines(
     println!(rt; "event - answer 0 state {state}")?;
     for step in steps {
         let event = step.event;
-        let answer = step.answer;
+        let answer = step.told();
         let state = StateWords {
             tasks,
             state: step.state,
@@ -85,7 +84,7 @@ pub(crate) fn draw_run<'a>(
     table: &'a TaskTable,
     policy: &Choice,
     first: State,
-    steps: &'a [Step<State>],
+    steps: &'a [TaskStep],
     forced: usize,
 ) -> Result<(), Trouble> {
     let ticks = list_ticks(rt.alloc(), policy, table.tasks(), first, steps)?;

@@ -1,17 +1,10 @@
-use Rattle.std.proofs.Common.{◌≡◌, Ok, Result, sym, ap, ◌∙◌, subst}
-use Rattle.std.specs.declared.alloc.AllocError.{AllocError}
-use Rattle.exploration.specs.declared.outcome.Outcome.TheVariants as outcome
-use Rattle.job_state.specs.declared.state.State.{State}
-use Rattle.verdict.specs.declared.judgement.Failure.{Failure}
-use Rattle.verdict.specs.declared.judgement.Judgement.{Judgement}
-use Rattle.verdict.specs.declared.judgement.Verdict.TheVariants as verdict
+use Rattle.std.proofs.Common.{◌≡◌, sym, ap, ◌∙◌}
 use Rattle.verdict.specs.Verdicts as of_systems
 use Rattle.verdict.proofs.Calls.{runs_never_late, states_never_late}
 use Rattle.verdict.proofs.Outcomes.{as_told}
-use Rattle.task_verdict.specs.declared.finding.TaskJudgement.{TaskJudgement}
 use Rattle.task_verdict.specs.declared.finding.TaskVerdict.{TaskVerdict}
 use Rattle.task_verdict.specs.declared.finding.TaskVerdict.TheVariants.{Schedulable, Unschedulable, TooLarge, VisitsFull, NodesFull}
-use Rattle.task_verdict.specs.Plain.{plain, outcome_of}
+use Rattle.task_verdict.specs.Plain.{outcome_of}
 use Rattle.task_verdict.proofs.Plains.{failure, restored, known, same_outcome, refused_whole}
 use Rattle.task_verdict.proofs.judging.judge_system.Goals as goal
 
