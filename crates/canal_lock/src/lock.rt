@@ -16,10 +16,8 @@ pub struct Lock {
 pub struct Chamber {
     // how long until the chamber is ready
     pub turn: u8,
-    // whether a boat waits
-    pub boat: bool,
-    // how long it has waited
-    pub wait: u8,
+    // how long the boat that waits has waited, where one does
+    pub boat: Option<u8>,
     // how long until another boat may come
     pub pause: u8,
 }

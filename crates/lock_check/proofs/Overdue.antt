@@ -10,6 +10,7 @@ use Rattle.exploration.specs.Claims.{NeverLate, EverLate}
 use Rattle.exploration.proofs.Runs.{reached_fits}
 use Rattle.canal_lock.specs.declared.lock.Lock.{Lock}
 use Rattle.canal_lock.specs.declared.lock.Chamber.{Chamber}
+use Rattle.canal_lock.specs.declared.refusal.LockRefusal.{LockRefusal}
 use Rattle.canal_lock.specs.Locks.{fits, late, gives, calm, meaning}
 use Rattle.canal_lock.specs.Laws.{lawful}
 use Rattle.lock_check.specs.Findings.{Overdue, NeverOverdue, EverOverdue}
@@ -27,7 +28,7 @@ module _ (l : Lock) where
   not_late : (x : Chamber) → (Overdue l x → ⊥) → late l x ≡ false
   not_late x h = ⊎_elim (λ (was : late l x ≡ true). absurd (h (late_overdue x was))) (λ was-not. was-not) (cases_Bool (late l x))
 
-  after_fits : (e : ℕ) (x : Chamber) (o : Result Chamber Refusal) → gives l e x ≡ o → fits l x ≡ true → fits l (after o x) ≡ true
+  after_fits : (e : ℕ) (x : Chamber) (o : Result Chamber (Refusal LockRefusal)) → gives l e x ≡ o → fits l x ≡ true → fits l (after o x) ≡ true
   after_fits e x (Ok y) g f = (lawful l).result_fits e x y f g
   after_fits e x (Err r) g f = f
 
