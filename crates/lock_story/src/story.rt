@@ -11,6 +11,7 @@ use canal_lock::{Chamber, Lock};
 use exploration::TraceRefusal;
 use explorer::{Node, Outcome, Visit, explore};
 use lock_check::{Finding, check_lock};
+use numbered_refusals::Numbered;
 use std::io;
 use tracing::trace;
 use transition::{Run, System};

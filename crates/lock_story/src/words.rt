@@ -2,10 +2,12 @@
 ghost use Rattle.std.specs.Prelude.{◌≡◌, Some};
 ghost use Rattle.lock_story.specs.Words.{event, answer, moment, found, ended};
 
-use canal_lock::Chamber;
+use canal_lock::{Chamber, LockRefusal};
 use explorer::Outcome;
 use lock_check::Verdict;
+use numbered_refusals::Numbered;
 use std::fmt;
+use transition::Refusal;
 
 // An event by its number.
 #[derive(Clone, Copy)]
@@ -35,17 +37,18 @@ impl fmt::Display for Event {
 
 // What a run answers an event.
 #[derive(Clone, Copy)]
-pub struct Answer(pub u8);
+pub struct Answer(pub Result<(), Refusal<LockRefusal>>);
 
 impl fmt::Display for Answer {
     ghost output = { λ x. Some (answer x.0) };
 
     fn fmt<W: fmt::Write>(&self, f: &mut fmt::Formatter<W>) -> fmt::Result {
-        let number = self.0;
-        if number == 0 {
-            write!(f, "accepted")
-        } else {
-            write!(f, "refusal {number}")
+        match self.0 {
+            Ok(()) => write!(f, "accepted"),
+            Err(refusal) => {
+                let number = refusal.number();
+                write!(f, "refusal {number}")
+            }
         }
     }
 }
@@ -59,15 +62,13 @@ impl fmt::Display for Moment {
 
     fn fmt<W: fmt::Write>(&self, f: &mut fmt::Formatter<W>) -> fmt::Result {
         let turn = self.0.turn;
-        let wait = self.0.wait;
         let pause = self.0.pause;
-        if self.0.boat {
-            write!(
+        match self.0.boat {
+            Some(wait) => write!(
                 f,
                 "ready in {turn}, a boat has waited {wait}, next boat in {pause}"
-            )
-        } else {
-            write!(f, "ready in {turn}, no boat waits, next boat in {pause}")
+            ),
+            None => write!(f, "ready in {turn}, no boat waits, next boat in {pause}"),
         }
     }
 }
