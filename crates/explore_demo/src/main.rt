@@ -10,8 +10,7 @@ use std::io;
 const NODE: Node<Chamber> = Node {
     state: Chamber {
         turn: 0,
-        boat: false,
-        wait: 0,
+        boat: None,
         pause: 0,
     },
     visit: 0,

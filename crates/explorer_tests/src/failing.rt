@@ -11,7 +11,7 @@ use transition::{Run, System};
 // Makes the events, each of which must be accepted.
 fn make(rt: &impl Abort, figures: &str, run: &mut Run<Lock>, events: &[u8]) {
     for event in events {
-        assert_eq!(rt; run.call(*event), 0, "{figures}");
+        assert_eq!(rt; run.call(*event), Ok(()), "{figures}");
     }
 }
 
@@ -19,7 +19,7 @@ fn make(rt: &impl Abort, figures: &str, run: &mut Run<Lock>, events: &[u8]) {
 fn make_forced(rt: &impl Abort, figures: &str, run: &mut Run<Lock>) -> Result<u16, Fail> {
     for made in 0..1152 {
         match run.forced() {
-            Ok(event) => assert_eq!(rt; run.call(event), 0, "{figures}"),
+            Ok(event) => assert_eq!(rt; run.call(event), Ok(()), "{figures}"),
             Err(_) => return Ok(made),
         }
     }

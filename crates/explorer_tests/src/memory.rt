@@ -7,8 +7,7 @@ use std::alloc::{AllocError, Global};
 pub(crate) fn lent_nodes(heap: Global, count: usize) -> Result<Vec<Node<Chamber>>, AllocError> {
     let state = Chamber {
         turn: 0,
-        boat: false,
-        wait: 0,
+        boat: None,
         pause: 0,
     };
     let node = Node {

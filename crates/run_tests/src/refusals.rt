@@ -1,21 +1,14 @@
 // What a run and the lock refuse, and in which order.
 use crate::words::{byte, chamber};
-use canal_lock::{Chamber, Lock};
+use canal_lock::{Lock, LockRefusal};
+use numbered_refusals::Numbered;
 use std::process::Abort;
 use std::test::Fail;
 use transition::{Refusal, Run, System};
 
-// What the forced event is refused by, or 0 where there is one.
-fn forced_told(forced: Result<u8, Refusal>) -> u8 {
-    match forced {
-        Ok(_) => 0,
-        Err(refusal) => refusal.number(),
-    }
-}
-
-// What the event is refused by, or 0 where it is accepted.
-fn next_told(next: Result<Chamber, Refusal>) -> u8 {
-    match next {
+// What is refused, by its number, or 0 where it is accepted.
+fn told<T: Copy>(answer: Result<T, Refusal<LockRefusal>>) -> u8 {
+    match answer {
         Ok(_) => 0,
         Err(refusal) => refusal.number(),
     }
@@ -44,9 +37,9 @@ const RUN: &str = "9 4 16
 // Makes the event of one line, and compares the answers.
 fn answers_so(rt: &impl Abort, run: &mut Run<Lock>, line: &str) -> Result<(), Fail> {
     let mut words = line.split_whitespace();
-    let answer = run.call(byte(&mut words)?);
+    let answer = told(run.call(byte(&mut words)?));
     assert_eq!(rt; answer, byte(&mut words)?, "{line}");
-    assert_eq!(rt; forced_told(run.forced()), byte(&mut words)?, "{line}");
+    assert_eq!(rt; told(run.forced()), byte(&mut words)?, "{line}");
     Ok(())
 }
 
@@ -67,7 +60,7 @@ const CHAMBERS: &str = "0 0 0 0 9 4 16
 6 0 0 0 2 17 17
 0 0 0 3 2 17 17
 0 1 5 0 2 17 17
-0 0 1 0 2 17 17
+0 1 255 0 2 17 17
 5 0 0 2 1 2 16
 5 1 0 2 1 1 0
 3 1 0 2 1 1 16";
@@ -78,12 +71,12 @@ fn refuses_so(rt: &impl Abort, lock: &Lock, line: &str) -> Result<(), Fail> {
     let state = chamber(&mut words)?;
     let event = byte(&mut words)?;
     assert_eq!(rt;
-        next_told(lock.next(&state, event)),
+        told(lock.next(&state, event)),
         byte(&mut words)?,
         "{line}"
     );
     assert_eq!(rt;
-        forced_told(lock.forced_event(&state)),
+        told(lock.forced_event(&state)),
         byte(&mut words)?,
         "{line}"
     );

@@ -5,6 +5,7 @@
 ghost use Rattle.std.specs.Prelude.{◌≡◌, length, MatchResult};
 ghost use Rattle.task_table.specs.Tables.{tasks_of};
 
+use numbered_refusals::Numbered;
 use policies::EarliestDeadline;
 use policies::least::Least;
 use policies::orders::Deadline;
@@ -61,7 +62,11 @@ fn tell_first_tick(rt: &HostRuntime) -> io::Result<()> {
     match pair_system() {
         Ok(system) => {
             let mut run = Run::new(system);
-            println!(rt; "the first tick is answered {}", run.call(9))
+            let answer = match run.call(9) {
+                Ok(()) => 0,
+                Err(refusal) => refusal.number(),
+            };
+            println!(rt; "the first tick is answered {answer}")
         }
         Err(refusal) => println!(rt; "{refusal}"),
     }

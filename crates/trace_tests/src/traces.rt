@@ -1,6 +1,7 @@
 // Tracing visits that are made by hand, sound and broken.
 use exploration::Visit;
 use exploration::trace_refusal::TraceRefusal;
+use numbered_refusals::Numbered;
 use std::alloc::Global;
 use std::process::Abort;
 use std::str::SplitWhitespace;
