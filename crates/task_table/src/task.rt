@@ -2,11 +2,22 @@
 ghost use Rattle.std.specs.Prelude.{◌≡◌, Decides};
 ghost use Rattle.task_table.specs.Tasks.{is_right, Right};
 
+use std::fmt;
+
 // What a task is worth: in high mode only the tasks of high criticality go on.
 #[derive(Clone, Copy, Debug, PartialEq, Eq)]
 pub enum Criticality {
     Low,
     High,
+}
+
+impl fmt::Display for Criticality {
+    fn fmt<W: fmt::Write>(&self, f: &mut fmt::Formatter<W>) -> fmt::Result {
+        f.pad(match self {
+            Criticality::Low => "low",
+            Criticality::High => "high",
+        })
+    }
 }
 
 #[derive(Clone, Copy, Debug, PartialEq, Eq)]
@@ -26,6 +37,16 @@ pub struct Task {
 
 impl Task {
     pub const LONGEST: u8 = 127;
+
+    // What stands where there is no task.
+    pub const UNUSED: Task = Task {
+        criticality: Criticality::Low,
+        period: 1,
+        deadline: 1,
+        budget_low: 1,
+        budget_high: 1,
+        offset: 0,
+    };
 
     // Whether the figures can be those of a task.
     pub fn is_right(&self) -> bool

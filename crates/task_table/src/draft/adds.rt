@@ -5,18 +5,8 @@ ghost use Rattle.task_table.specs.Tables.{drafted, tasks_of, answer, grown};
 use crate::draft::Draft;
 use crate::refusal::DraftRefusal;
 use crate::table::TaskTable;
-use crate::task::{Criticality, Task};
+use crate::task::Task;
 use crate::task_list::{ROOM, TaskList};
-
-// What stands in a row that has no task yet.
-const UNUSED: Task = Task {
-    criticality: Criticality::Low,
-    period: 1,
-    deadline: 1,
-    budget_low: 1,
-    budget_high: 1,
-    offset: 0,
-};
 
 impl Draft {
     // A draft without tasks.
@@ -24,7 +14,7 @@ impl Draft {
         ensures { drafted result ≡ [] }
     {
         let list = TaskList {
-            rows: [UNUSED; 8],
+            rows: [Task::UNUSED; 8],
             count: 0,
         };
         Draft { list }
