@@ -1,9 +1,9 @@
 -- The test for right tasks tells the rule, of one task and of all in a list.
-use Rattle.std.proofs.Common.{◌≡◌, ℕ, ◌+◌, ◌<◌, ◌≤◌, true, List, [], ◌∷◌, ◌++◌, length, get_or, take, set, Decides, refl, arith}
+use Rattle.std.proofs.Common.{◌≡◌, ℕ, ◌+◌, ◌<◌, true, List, [], ◌∷◌, ◌++◌, length, take, set, Decides, refl, arith}
 use Rattle.std.specs.List.{AllByRecursion}
 use Rattle.std.proofs.lemmas.Bool.Decides.{nat_tests}
-use Rattle.std.proofs.ByRecursion.{Decides-by_and, All-push, All-get_or}
-use Rattle.std.proofs.lemmas.List.{take_more_set, get_or-take, length-take-le}
+use Rattle.std.proofs.ByRecursion.{Decides-by_and, All-push}
+use Rattle.std.proofs.lemmas.List.{take_more_set}
 use Rattle.task_table.specs.declared.task.Criticality.{Criticality}
 use Rattle.task_table.specs.declared.task.Criticality.TheVariants.{Low, High}
 use Rattle.task_table.specs.declared.task.Task.{Task}
@@ -48,8 +48,3 @@ pub right_put : (ts : List Task) (n : ℕ) (t : Task) → n < length ts → all_
 right_put ts n t l h k =
     rw (take_more_set ts n t l) ((all_right_decides (take n ts ++ t ∷ [])).1
     (All-push Right (take n ts) t ((all_right_decides (take n ts)).0 h) ((right_decides t).0 k)))
-
-pub right_among : (ts : List Task) (n i : ℕ) (d : Task) → all_right (take n ts) ≡ true → n ≤ length ts → i < n → Right (get_or ts i d)
-right_among ts n i d h l k =
-    let long = length-take-le n ts l in
-    rw get_or-take at (All-get_or Right (take n ts) i d (omega arith) ((all_right_decides (take n ts)).0 h))

@@ -1,5 +1,6 @@
 -- Which figures can be those of a task.
-use Rattle.std.specs.Prelude.{◌≡◌, ℕ, ◌≤◌, Bool, true, ◌&&◌, List, [], ◌∷◌, ◌==◌, nat_le}
+use Rattle.std.specs.Prelude.{◌≡◌, ℕ, ◌≤◌, Bool, ◌&&◌, List, ◌==◌, nat_le}
+use Rattle.std.specs.List.{list_all}
 use Rattle.task_table.specs.declared.task.Criticality.{Criticality}
 use Rattle.task_table.specs.declared.task.Criticality.TheVariants.{Low, High}
 use Rattle.task_table.specs.declared.task.Task.{Task}
@@ -29,5 +30,4 @@ is_right t =
     && (nat_le t.period 127 && nat_le t.offset 127))))
 
 abbrev pub all_right : List Task → Bool
-all_right [] = true
-all_right (t ∷ ts) = is_right t && all_right ts
+all_right ts = list_all is_right ts

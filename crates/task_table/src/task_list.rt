@@ -6,6 +6,7 @@ use crate::task::Task;
 
 pub(crate) const ROOM: usize = 8;
 
+// An array and its count: a table has room for eight tasks, takes no memory and is `Copy`.
 #[derive(Clone, Copy)]
 pub(crate) struct TaskList {
     pub(crate) rows: [Task; 8],

@@ -21,11 +21,7 @@ impl TaskTable {
         ensures answers { result ≡ numbered (tasks_of self.now) number }
         ensures right { IfSome result Right }
     {
-        if 1 <= number && number <= self.list.count {
-            Some(self.list.rows[number - 1])
-        } else {
-            None
-        }
+        self.tasks().get(number.checked_sub(1)?).copied()
     }
 
     // All tasks, in their order.
@@ -34,6 +30,6 @@ impl TaskTable {
         ensures right { AllByRecursion Right result.now }
         ensures few { length result.now ≤ 8 }
     {
-        &self.list.rows[0..self.list.count]
+        &self.list.rows[..self.list.count]
     }
 }
