@@ -42,7 +42,7 @@ value_within most bs = cond (filled bs && (all_digits bs && nat_le (numeral bs) 
 
 -- the number that a word writes in decimal digits, where it is at most 255
 abbrev pub byte_value : List ℕ → Option ℕ
-byte_value bs = cond (filled bs && (all_digits bs && nat_le (numeral bs) 255)) (Some (numeral bs)) None
+byte_value bs = value_within 255 bs
 
 -- the criticality that a word names: H or L
 abbrev pub level : List ℕ → Option Criticality

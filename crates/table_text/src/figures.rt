@@ -47,17 +47,16 @@ pub fn value_within(word: &[u8], most: u32) -> Option<u32>
     if word.is_empty() {
         return None;
     }
+    // digit by digit, since `parse` takes a sign in front, which no figure has
     let mut value: u64 = 0;
-    for digit in word {
-        if *digit < b'0' || b'9' < *digit {
-            return None;
-        }
-        value = 10 * value + (*digit - b'0') as u64;
-        if value > most as u64 {
+    for byte in word {
+        let digit = char::from(*byte).to_digit(10)?;
+        value = 10 * value + u64::from(digit);
+        if value > u64::from(most) {
             return None;
         }
     }
-    Some(value as u32)
+    u32::try_from(value).ok()
 }
 
 // The largest number that a byte holds.
@@ -67,8 +66,5 @@ const LARGEST: u32 = 255;
 pub fn byte_value(word: &[u8]) -> Option<u8>
     ensures { result ≡ byte_value word.now }
 {
-    match value_within(word, LARGEST) {
-        Some(value) => Some(value as u8),
-        None => None,
-    }
+    u8::try_from(value_within(word, LARGEST)?).ok()
 }

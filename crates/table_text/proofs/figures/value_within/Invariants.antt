@@ -3,5 +3,5 @@ use Rattle.table_text.specs.Figures.{value_within}
 use Rattle.table_text.proofs.Decimals.{reading}
 use Rattle.table_text.proofs.figures.value_within.Given as goal
 
-abbrev pub invariant-loop-digit : goal.invariant-loop-digit
-invariant-loop-digit l = (reading l.most l.value (drop l.digit-index l.word) ≡ value_within l.most l.word) × (l.value ≤ l.most)
+abbrev pub invariant-loop-byte : goal.invariant-loop-byte
+invariant-loop-byte l = (reading l.most l.value (drop l.byte-index l.word) ≡ value_within l.most l.word) × (l.value ≤ l.most)
