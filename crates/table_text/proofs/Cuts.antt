@@ -1,106 +1,65 @@
--- How pieces and words are cut off from the front.
-use Rattle.std.proofs.Common.{◌≡◌, ℕ, zero, suc, ◌+◌, ◌<◌, ◌≤◌, Bool, true, false, not, leb, ◌⊎◌, List, [], ◌∷◌, length, get_or, take, drop, filter, sym, refl, ap, ◌∙◌, inl, inr, one-add, arith}
-use lib.Seq.{drop-length}
-use Rattle.std.specs.List.{prefix_len}
-use Rattle.std.proofs.lemmas.List.{drop_more, drop-drop, take_all, length-drop}
-use Rattle.std.proofs.lemmas.List.Sums.{prefix_len-le-length}
-use Rattle.std.proofs.lemmas.Bool.Decides.{leb_tells}
-use Rattle.table_text.specs.Pieces.{pieces, filled, words, separates}
+-- How pieces are cut off from the front, how many there are, and which words are left behind the first.
+use Rattle.std.proofs.Common.{◌≡◌, ℕ, ◌+◌, ◌≤◌, Bool, true, false, not, eqb, List, [], ◌∷◌, length, get_or, take, drop, filter, position, unwrap_or, Some, None, Option, Bor, sym, refl, ap, ◌∙◌, subst, arith}
+use denote.Param.Members.{Mut}
+use Rattle.std.specs.List.{slice_split, slice_get, position_or_len, FoldsTo}
+use Rattle.std.specs.Fn.{CalledAt}
+use Rattle.std.specs.Iterator.{YieldsFirstBy, Yields, FindsItem, MakesProgress, item_count}
+use Rattle.std.specs.Option.{option_map}
+use Rattle.std.proofs.lemmas.List.Splits.{slice_split_first, slice_split_none, length-slice_split}
+use Rattle.std.proofs.lemmas.List.Sums.{fails_before_first, count_by-le-length, length-filter}
+use Rattle.std.proofs.lemmas.Option.{unwrap_or-slice_get}
+use Rattle.std.proofs.lemmas.Bool.Decides.{nat_tests}
+use Rattle.table_text.specs.Pieces.{words, filled, separates}
 use Rattle.table_text.specs.declared.pieces.Separator.TheVariants.{Blank}
 
-module _ (sep : ℕ → Bool) where
-  -- how many bytes the first piece has
-  abbrev pub reach : List ℕ → ℕ
-  reach bs = prefix_len (λ b. not (sep b)) bs
-
-  -- at a separator: a piece, and the pieces behind it
-  pub pieces_cut : (bs : List ℕ) → reach bs < length bs → pieces sep bs ≡ take (reach bs) bs ∷ pieces sep (drop (suc (reach bs)) bs)
-  pieces_cut [] l = absurd (omega arith)
-  pieces_cut (b ∷ bs) l = go (sep b) refl l (pieces_cut bs)
-    where
-      go : (s : Bool) → sep b ≡ s → reach (b ∷ bs) < length (b ∷ bs) → (reach bs < length bs → pieces sep bs ≡ take (reach bs) bs ∷ pieces sep (drop (suc (reach bs)) bs)) → pieces sep (b ∷ bs) ≡ take (reach (b ∷ bs)) (b ∷ bs) ∷ pieces sep (drop (suc (reach (b ∷ bs))) (b ∷ bs))
-      go true e k rest = simp e
-      go false e k rest =
-          let m : suc (reach bs) < suc (length bs) = simp (e, one-add) at k in
-          simp (e, one-add) (rw (rest (omega arith)) refl)
+module _ (sep : ℕ → Bool) (bs : List ℕ) where
+  -- where a separator stands: a piece, and the pieces behind it
+  pub first_cut : (n : ℕ) → Some n ≡ position sep bs → slice_split sep bs ≡ take n bs ∷ slice_split sep (drop (n + 1) bs)
+  first_cut n e = grind (arith, nat_tests, slice_split_first sep bs 0)
 
   -- without a separator: one piece
-  pub pieces_whole : (bs : List ℕ) → reach bs ≡ length bs → pieces sep bs ≡ bs ∷ []
-  pieces_whole [] l = refl
-  pieces_whole (b ∷ bs) l = go (sep b) refl l (pieces_whole bs)
-    where
-      go : (s : Bool) → sep b ≡ s → reach (b ∷ bs) ≡ length (b ∷ bs) → (reach bs ≡ length bs → pieces sep bs ≡ bs ∷ []) → pieces sep (b ∷ bs) ≡ (b ∷ bs) ∷ []
-      go true e k rest = let m : 0 ≡ suc (length bs) = simp e at k in absurd (omega arith)
-      go false e k rest =
-          let m : suc (reach bs) ≡ suc (length bs) = simp (e, one-add) at k in
-          simp e (rw (rest (omega arith)) refl)
+  pub last_cut : None ≡ position sep bs → slice_split sep bs ≡ bs ∷ []
+  last_cut e =
+      let all : length bs ≤ position_or_len sep bs = grind (arith, nat_tests) in
+      slice_split_none sep bs (λ k d l. fails_before_first sep bs k d (omega arith))
 
-  -- a separator in front
-  pub front_separates : (b : ℕ) (bs : List ℕ) → reach (b ∷ bs) ≡ 0 → sep b ≡ true
-  front_separates b bs l = go (sep b) refl l
-    where
-      go : (s : Bool) → sep b ≡ s → reach (b ∷ bs) ≡ 0 → sep b ≡ true
-      go true e k = e
-      go false e k = let m : suc (reach bs) ≡ 0 = simp (e, one-add) at k in absurd (omega arith)
+  pub pieces_few : length (slice_split sep bs) ≤ length bs + 1
+  pieces_few = omega (arith, length-slice_split sep bs, count_by-le-length sep bs)
 
-  -- what stands behind a first piece that is not all
-  pub separator_behind : (bs : List ℕ) → reach bs < length bs → pieces sep (drop (reach bs) bs) ≡ [] ∷ pieces sep (drop (suc (reach bs)) bs)
-  separator_behind [] l = absurd (omega arith)
-  separator_behind (b ∷ bs) l = go (sep b) refl l (separator_behind bs)
-    where
-      go : (s : Bool) → sep b ≡ s → reach (b ∷ bs) < length (b ∷ bs) → (reach bs < length bs → pieces sep (drop (reach bs) bs) ≡ [] ∷ pieces sep (drop (suc (reach bs)) bs)) → pieces sep (drop (reach (b ∷ bs)) (b ∷ bs)) ≡ [] ∷ pieces sep (drop (suc (reach (b ∷ bs))) (b ∷ bs))
-      go true e k rest = simp e
-      go false e k rest =
-          let m : suc (reach bs) < suc (length bs) = simp (e, one-add) at k in
-          simp (e, one-add) (rest (omega arith))
+pub words_few : (bs : List ℕ) → length (words bs) ≤ length bs + 1
+words_few bs =
+    let pieces = slice_split (separates Blank) bs in
+    omega (arith, length-filter filled pieces, count_by-le-length filled pieces, pieces_few (separates Blank) bs)
 
-  -- a piece is cut off where more stands behind it
-  pub first_cut : (bs piece more after : List ℕ) (n : ℕ) → n ≡ reach bs → piece ≡ take n bs → more ≡ drop n bs → after ≡ drop 1 more → 0 < length more → pieces sep bs ≡ piece ∷ pieces sep after
-  first_cut bs piece more after n e f b a l =
-      let long = length-drop n bs in
-      let some = ap length b in
-      let inside : reach bs < length bs = omega arith in
-      let next : suc (reach bs) ≡ n + 1 = omega arith in
-      let past : drop (suc (reach bs)) bs ≡ after = ap (λ k. drop k bs) next ∙ sym (drop-drop 1 n bs) ∙ ap (drop 1) (sym b) ∙ sym a in
-      let first : take (reach bs) bs ≡ piece = ap (λ k. take k bs) (sym e) ∙ sym f in
-      pieces_cut bs inside ∙ ap (λ p. p ∷ pieces sep (drop (suc (reach bs)) bs)) first ∙ ap (λ r. piece ∷ pieces sep r) past
+-- what stands at a place, or nothing
+pub found_at : (xs : List (List ℕ)) (n : ℕ) (found : Option (Bor (List ℕ))) (none : Bor (List ℕ)) → option_map (λ x. x.now) found ≡ slice_get xs n → none.now ≡ [] → (unwrap_or found none).now ≡ get_or xs n []
+found_at xs n None none e f = f ∙ ap (λ o. unwrap_or o []) e ∙ unwrap_or-slice_get xs n []
+found_at xs n (Some x) none e f = ap (λ o. unwrap_or o []) e ∙ unwrap_or-slice_get xs n []
 
-  -- the last piece is all that is left
-  pub last_cut : (bs piece more : List ℕ) (n : ℕ) → n ≡ reach bs → piece ≡ take n bs → more ≡ drop n bs → length more ≡ 0 → pieces sep bs ≡ piece ∷ []
-  last_cut bs piece more n e f b z =
-      let long = length-drop n bs in
-      let none = ap length b in
-      let all : reach bs ≡ length bs = omega (arith, prefix_len-le-length (λ x. not (sep x)) bs) in
-      pieces_whole bs all ∙ ap (λ p. p ∷ []) (sym (f ∙ take_all n bs (omega arith)))
+-- `find` by a test, over an iterator that shows what is left: the first that passes comes, and those behind it that pass are left
+module _ {S A B F : Type 0} (v : A → B) (left : S → List B) (test : B → Bool) (g : Mut F (Bor A × Unit {0}) Bool) (f : F) (computes : (x : A) (b : Bool) (q : F) → CalledAt g f x b q → (q ≡ f) × (b ≡ test (v x))) where
+  passed : (xs : List A) (s t : S) (p q : F) → p ≡ f → Yields (YieldsFirstBy v left) s xs t → FoldsTo (λ a x b. CalledAt g a x false b) p xs q → (q ≡ f) × (filter test (left s) ≡ filter test (left t))
+  passed [] s t p q e y h = (sym h ∙ e, ap (λ z. filter test (left z)) y)
+  passed (x ∷ xs) s t p q e (m, step, more) (k, call, calls) =
+      let answer = computes x false k (subst (λ z. CalledAt g z x false k) e call) in
+      let rest = passed xs m t k q answer.0 more calls in
+      let fails : test (v x) ≡ false = sym answer.1 in
+      (rest.0, ap (filter test) step ∙ simp fails rest.1)
 
-abbrev pub blank : ℕ → Bool
-blank b = separates Blank b
+  pub find_filters : (s u : S) (r : Option A) → FindsItem (YieldsFirstBy v left) g s f r u → YieldsFirstBy v (λ z. filter test (left z)) s r u
+  find_filters s u None (xs, q, (t, y, step), h, last) =
+      let rest = passed xs s t f q refl y h in
+      (rest.1 ∙ ap (filter test) step.0, ap (filter test) step.1)
+  find_filters s u (Some x) (xs, q, (t, y, step), h, (k, call)) =
+      let rest = passed xs s t f q refl y h in
+      let passes : test (v x) ≡ true = sym (computes x true k (subst (λ z. CalledAt g z x true k) rest.0 call)).1 in
+      rest.1 ∙ ap (filter test) step ∙ simp passes
 
--- a blank in front is no part of a word
-pub words_blank : (b : ℕ) (bs : List ℕ) → reach blank (b ∷ bs) ≡ 0 → words (b ∷ bs) ≡ words bs
-words_blank b bs l = let e : blank b ≡ true = front_separates blank b bs l in simp e
+pub filled_is : (bs : List ℕ) → not (eqb (length bs) 0) ≡ filled bs
+filled_is [] = refl
+filled_is (b ∷ bs) = grind (arith, nat_tests)
 
--- a piece with something in it is a word
-word_first : (b : ℕ) (bs : List ℕ) (n : ℕ) (ps : List (List ℕ)) → 0 < n → filter filled (take n (b ∷ bs) ∷ ps) ≡ take n (b ∷ bs) ∷ filter filled ps
-word_first b bs zero ps l = absurd (omega arith)
-word_first b bs (suc n) ps l = refl
-
--- the first word, where one stands in front
-pub words_cut : (bs : List ℕ) → 0 < reach blank bs → words bs ≡ take (reach blank bs) bs ∷ words (drop (reach blank bs) bs)
-words_cut [] l = absurd (omega arith)
-words_cut (b ∷ bs) l = go (leb_tells (length (b ∷ bs)) (reach blank (b ∷ bs)))
-  where
-    go : ((leb (length (b ∷ bs)) (reach blank (b ∷ bs)) ≡ true) × (length (b ∷ bs) ≤ reach blank (b ∷ bs))) ⊎ ((leb (length (b ∷ bs)) (reach blank (b ∷ bs)) ≡ false) × (reach blank (b ∷ bs) < length (b ∷ bs))) → words (b ∷ bs) ≡ take (reach blank (b ∷ bs)) (b ∷ bs) ∷ words (drop (reach blank (b ∷ bs)) (b ∷ bs))
-    go (inl h) =
-        let all : reach blank (b ∷ bs) ≡ length (b ∷ bs) = omega (arith, h.1, prefix_len-le-length (λ x. not (blank x)) (b ∷ bs)) in
-        rw (all, take_all (length (b ∷ bs)) (b ∷ bs) (omega arith), drop-length) (ap (filter filled) (pieces_whole blank (b ∷ bs) all))
-    go (inr h) =
-        ap (filter filled) (pieces_cut blank (b ∷ bs) h.1)
-        ∙ word_first b bs (reach blank (b ∷ bs)) (pieces blank (drop (suc (reach blank (b ∷ bs))) (b ∷ bs))) l
-        ∙ ap (λ ps. take (reach blank (b ∷ bs)) (b ∷ bs) ∷ filter filled ps) (sym (separator_behind blank (b ∷ bs) h.1))
-
--- the words from a blank on are those behind it
-pub words_past : (bs : List ℕ) (i : ℕ) → i < length bs → reach blank (drop i bs) ≡ 0 → words (drop (i + 1) bs) ≡ words (drop i bs)
-words_past bs i l z =
-    let more = drop_more bs i 0 l in
-    sym (ap words more ∙ words_blank (get_or bs i 0) (drop (i + 1) bs) (ap (reach blank) (sym more) ∙ z))
+-- what `next` owes of its progress, where it yields the first of what is left
+pub progress : {S A B : Type 0} (v : A → B) (left : S → List B) (can : S → Type 0) → ((z : S) → can z) → (s t : S) (r : Option A) → YieldsFirstBy v left s r t → MakesProgress can (item_count left) s r t
+progress v left can all s t None y = record { on = λ _. tt; keeps = tt; rests = λ _. tt }
+progress v left can all s t (Some x) y = record { on = λ _. (all t, tt, omega (arith, ap length y)); keeps = all t; rests = λ _. tt }

@@ -30,6 +30,11 @@ with_task r t = read (r.tasks ++ t ∷ []) r.faults
 abbrev pub with_fault : Read → ℕ → Slip → Read
 with_fault r n s = read r.tasks (r.faults ++ record { line = n; slip = s } ∷ [])
 
+-- what is wrong with a line is a fault
+abbrev pub with_slip : Result (Unit {0}) Slip → Read → ℕ → Read
+with_slip (Ok u) r n = r
+with_slip (Err s) r n = with_fault r n s
+
 -- a task is added, or the draft's refusal is a fault of its line
 abbrev pub with_answer : Read → ℕ → Task → Result (Unit {0}) DraftRefusal → Read
 with_answer r n t (Ok u) = with_task r t

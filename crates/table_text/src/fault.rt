@@ -1,4 +1,7 @@
 // What can be wrong with a table file.
+ghost use Rattle.std.specs.Prelude.{◌≡◌};
+ghost use Rattle.table_text.specs.declared.fault.Slip.TheVariants.{Refused};
+
 use crate::figures::Figure;
 use task_table::refusal::DraftRefusal;
 
@@ -13,6 +16,14 @@ pub enum Slip {
     NoByte(Figure),
     // the draft refuses its task
     Refused(DraftRefusal),
+}
+
+impl From<DraftRefusal> for Slip {
+    ghost from_gives = { λ refusal slip. slip ≡ Refused refusal };
+
+    fn from(refusal: DraftRefusal) -> Slip {
+        Slip::Refused(refusal)
+    }
 }
 
 // What is wrong, and with which line, which counts from 1.

@@ -1,10 +1,11 @@
 // Where bytes are separated into lines, words and other pieces.
-ghost use Rattle.std.specs.Prelude.{◌≡◌, ◌<◌, ◌≤◌, not, [], ◌∷◌, length, IfSome, MatchOption, slice_index_or};
+ghost use Rattle.std.specs.Prelude.{◌≡◌, ◌<◌, [], ◌∷◌, length, position, IfSome, slice_index_or};
+ghost use Rattle.std.specs.Iterator.{YieldsFirstRef, item_count};
+ghost use Rattle.std.specs.List.{before_first, slice_split};
 ghost use Rattle.std.specs.Option.{option_map};
-ghost use Rattle.std.specs.List.{prefix_len};
-ghost use Rattle.table_text.specs.Pieces.{separates, bare, pieces, pieces_behind, lines, lines_behind, words};
+ghost use Rattle.table_text.specs.Pieces.{separates, bare, pieces_behind, lines, pieces_left, words, words_left};
 
-#[derive(Clone, Copy)]
+#[derive(Clone, Copy, Debug, PartialEq, Eq)]
 pub enum Separator {
     // ends a line
     Newline,
@@ -28,104 +29,101 @@ impl Separator {
         }
     }
 
-    // How many bytes stand before the first separator.
-    pub(crate) fn reach(self, bytes: &[u8]) -> usize
-        ensures answers { result ≡ prefix_len (λ b. not (separates self b)) bytes.now }
-        ensures within { result ≤ length bytes.now }
+    // The place of the first separator, if there is one.
+    fn position(self, bytes: &[u8]) -> Option<usize>
+        ensures { result ≡ position (separates self) bytes.now }
     {
-        for (i, byte) in bytes.iter().enumerate() {
-            if self.separates(*byte) {
-                return i;
-            }
-        }
-        bytes.len()
+        bytes.iter().position(|byte| self.separates(*byte))
     }
 
     // The first piece, and what stands behind the separator that ends it, if one does.
     pub fn next_piece<'a>(self, bytes: &'a [u8]) -> (&'a [u8], Option<&'a [u8]>)
-        ensures cut { pieces (separates self) bytes.now ≡ result.0.now ∷ pieces_behind (separates self) (option_map (λ x. x.now) result.1) }
+        ensures cut { slice_split (separates self) bytes.now ≡ result.0.now ∷ pieces_behind (separates self) (option_map (λ x. x.now) result.1) }
+        ensures first { result.0.now ≡ before_first (separates self) bytes.now }
         ensures shorter { IfSome result.1 (λ more. length more.now < length bytes.now) }
     {
-        let (piece, end) = bytes.split_at(self.reach(bytes));
-        if end.is_empty() {
-            return (piece, None);
+        match self.position(bytes) {
+            Some(end) => (&bytes[..end], Some(&bytes[end + 1..])),
+            None => (bytes, None),
         }
-        let (_, more) = end.split_at(1);
-        (piece, Some(more))
+    }
+
+    // What stands between the separators, one piece more than there are of these.
+    pub fn pieces(self, bytes: &[u8]) -> Pieces<'_>
+        ensures { pieces_left result ≡ slice_split (separates self) bytes.now }
+    {
+        Pieces {
+            separator: self,
+            rest: Some(bytes),
+        }
     }
 }
 
-// The first line, and what stands behind the newline that ends it, if one does.
-pub(crate) fn next_line(bytes: &[u8]) -> (&[u8], Option<&[u8]>)
-    ensures cut { lines bytes.now ≡ result.0.now ∷ lines_behind (option_map (λ x. x.now) result.1) }
-    ensures shorter { IfSome result.1 (λ more. length more.now < length bytes.now) }
-{
-    Separator::Newline.next_piece(bytes)
+// Pieces, one after the other.
+#[derive(Drop)]
+pub struct Pieces<'a> {
+    separator: Separator,
+    // what stands behind the pieces that were given, until the last one is
+    rest: Option<&'a [u8]>,
+}
+
+impl<'a> Iterator for Pieces<'a> {
+    type Item = &'a [u8];
+
+    ghost next_gives = { YieldsFirstRef pieces_left };
+
+    ghost remaining = { item_count pieces_left };
+
+    fn next(&mut self) -> Option<&'a [u8]> {
+        let (piece, rest) = self.separator.next_piece(self.rest?);
+        self.rest = rest;
+        Some(piece)
+    }
+}
+
+// The words of a line, one after the other: its pieces between blanks that are not empty.
+#[derive(Drop)]
+pub struct Words<'a>(Pieces<'a>);
+
+impl Words<'_> {
+    pub fn of(line: &[u8]) -> Words<'_>
+        ensures { words_left result ≡ words line.now }
+    {
+        Words(Separator::Blank.pieces(line))
+    }
+}
+
+impl<'a> Iterator for Words<'a> {
+    type Item = &'a [u8];
+
+    ghost next_gives = { YieldsFirstRef words_left };
+
+    ghost remaining = { item_count words_left };
+
+    fn next(&mut self) -> Option<&'a [u8]> {
+        self.0.find(|piece| !piece.is_empty())
+    }
 }
 
 // The line without its comment.
 pub(crate) fn bare(line: &[u8]) -> &[u8]
     ensures { result.now ≡ bare line.now }
 {
-    let (before, _) = line.split_at(Separator::Hash.reach(line));
+    let (before, _) = Separator::Hash.next_piece(line);
     before
 }
 
-// The first word and what stands behind it, or none where there is no word.
-pub(crate) fn next_word(bytes: &[u8]) -> Option<(&[u8], &[u8])>
-    ensures { MatchOption result (words bytes.now ≡ []) (λ p. (words bytes.now ≡ p.0.now ∷ words p.1.now) × (length p.1.now < length bytes.now)) }
-{
-    for start in 0..bytes.len() {
-        let (_, tail) = bytes.split_at(start);
-        let end = Separator::Blank.reach(tail);
-        if end > 0 {
-            return Some(tail.split_at(end));
-        }
-    }
-    None
-}
-
-// How many words there are.
-pub(crate) fn word_count(bytes: &[u8]) -> usize
-    ensures { result ≡ length (words bytes.now) }
-{
-    let mut count = 0;
-    let mut rest = bytes;
-    while let Some((_, more)) = next_word(rest) {
-        count += 1;
-        rest = more;
-    }
-    count
-}
-
 // The word at that place, which counts from 0, or nothing where there are fewer.
-pub(crate) fn word_at(bytes: &[u8], place: usize) -> &[u8]
-    ensures { result.now ≡ slice_index_or (words bytes.now) place [] }
+pub(crate) fn word_at(line: &[u8], place: usize) -> &[u8]
+    ensures { result.now ≡ slice_index_or (words line.now) place [] }
 {
-    let mut rest = bytes;
-    for _ in 0..place {
-        match next_word(rest) {
-            Some((_, more)) => rest = more,
-            None => return &[],
-        }
-    }
-    match next_word(rest) {
-        Some((word, _)) => word,
-        None => &[],
-    }
+    Words::of(line).nth(place).unwrap_or(&[])
 }
 
 // The line at that place, which counts from 0, or nothing where there are fewer.
 pub(crate) fn line_at(bytes: &[u8], place: usize) -> &[u8]
     ensures { result.now ≡ slice_index_or (lines bytes.now) place [] }
 {
-    let mut rest = bytes;
-    for _ in 0..place {
-        match next_line(rest) {
-            (_, Some(more)) => rest = more,
-            (_, None) => return &[],
-        }
-    }
-    let (line, _) = next_line(rest);
-    line
+    let mut lines = Separator::Newline.pieces(bytes);
+    lines.nth(place).unwrap_or(&[])
 }

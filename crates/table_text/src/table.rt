@@ -1,11 +1,11 @@
 // What a whole table file says.
-ghost use Rattle.std.specs.Prelude.{◌≡◌, ◌≤◌, length, OnOk};
-ghost use Rattle.table_text.specs.Files.{read_so_far, with_line, with_lines, Tells};
+ghost use Rattle.std.specs.Prelude.{◌≡◌, ℕ, ◌≤◌, length, OnOk};
+ghost use Rattle.table_text.specs.Files.{read_so_far, with_line, with_lines, with_slip, Tells};
 ghost use Rattle.table_text.specs.Pieces.{lines};
 
 use crate::fault::{Fault, Slip};
 use crate::line::read_task;
-use crate::pieces::next_line;
+use crate::pieces::Separator;
 use crate::reading::{ReadError, Reading};
 use std::alloc::{AllocFailed, Global};
 use task_table::draft::Draft;
@@ -15,19 +15,24 @@ use task_table::table::TaskTable;
 pub const LONGEST: usize = 16_777_216;
 
 impl Reading {
+    // Adds the task of the line to the draft, where it has one.
+    fn add_task(&mut self, line: &[u8]) -> Result<(), Slip>
+        ensures { (n : ℕ) → with_slip result (read_so_far self.new) n ≡ with_line (read_so_far self.old) n line.now }
+    {
+        if let Some(task) = read_task(line)? {
+            self.draft.add(task)?;
+        }
+        Ok(())
+    }
+
     // Takes up one more line, which counts from 1.
     fn take_line(&mut self, number: usize, line: &[u8]) -> Result<(), AllocFailed<Fault>>
         ensures { OnOk result (read_so_far self.new ≡ with_line (read_so_far self.old) number line.now) }
     {
-        let slip = match read_task(line) {
-            Ok(None) => return Ok(()),
-            Ok(Some(task)) => match self.draft.add(task) {
-                Ok(()) => return Ok(()),
-                Err(refusal) => Slip::Refused(refusal),
-            },
-            Err(slip) => slip,
-        };
-        self.faults.push(Fault { line: number, slip })
+        match self.add_task(line) {
+            Ok(()) => Ok(()),
+            Err(slip) => self.faults.push(Fault { line: number, slip }),
+        }
     }
 
     // Takes up all lines.
@@ -35,18 +40,10 @@ impl Reading {
         requires { length bytes.now ≤ 16777216 }
         ensures { OnOk result (read_so_far self.new ≡ with_lines (read_so_far self.old) 1 (lines bytes.now)) }
     {
-        let mut number = 1;
-        let mut rest = bytes;
-        loop {
-            match next_line(rest) {
-                (line, Some(more)) => {
-                    self.take_line(number, line)?;
-                    number += 1;
-                    rest = more;
-                }
-                (line, None) => return self.take_line(number, line),
-            }
+        for (i, line) in Separator::Newline.pieces(bytes).enumerate() {
+            self.take_line(i + 1, line)?;
         }
+        Ok(())
     }
 }
 
@@ -61,9 +58,7 @@ pub fn read_table(heap: Global, bytes: &[u8]) -> Result<TaskTable, ReadError>
         draft: Draft::new(),
         faults: Vec::new(heap),
     };
-    let Ok(()) = reading.take_lines(bytes) else {
-        return Err(ReadError::NoMemory);
-    };
+    reading.take_lines(bytes)?;
     let Reading { draft, faults } = reading;
     if faults.is_empty() {
         Ok(draft.seal())
