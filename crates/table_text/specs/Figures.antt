@@ -1,5 +1,6 @@
 -- What a word writes of a task.
-use Rattle.std.specs.Prelude.{ℕ, ◌+◌, ◌-◌, ◌*◌, Bool, true, cond, ◌&&◌, List, [], ◌∷◌, Some, None, codes, fold, Option, ◌==◌, nat_le}
+use Rattle.std.specs.Prelude.{ℕ, ◌+◌, ◌-◌, ◌*◌, Bool, cond, ◌&&◌, List, [], ◌∷◌, Some, None, codes, fold, Option, ◌==◌, nat_le}
+use Rattle.std.specs.List.{list_all}
 use Rattle.task_table.specs.declared.task.Criticality.{Criticality}
 use Rattle.task_table.specs.declared.task.Criticality.TheVariants.{Low, High}
 use Rattle.table_text.specs.Pieces.{filled}
@@ -25,8 +26,7 @@ abbrev pub is_digit : ℕ → Bool
 is_digit b = nat_le 48 b && nat_le b 57
 
 abbrev pub all_digits : List ℕ → Bool
-all_digits [] = true
-all_digits (b ∷ bs) = is_digit b && all_digits bs
+all_digits bs = list_all is_digit bs
 
 -- a value with one decimal digit more
 abbrev pub with_digit : ℕ → ℕ → ℕ

@@ -2,6 +2,8 @@
 ghost use Rattle.std.specs.Prelude.{◌≡◌, ◌≤◌, IfSome};
 ghost use Rattle.table_text.specs.Figures.{place, name, value_within, byte_value};
 
+use std::fmt;
+
 // A figure of a task, by the place of its word in the line.
 #[derive(Clone, Copy, Debug, PartialEq, Eq)]
 pub enum Figure {
@@ -36,6 +38,12 @@ impl Figure {
             Figure::BudgetHigh => "high budget",
             Figure::Offset => "offset",
         }
+    }
+}
+
+impl fmt::Display for Figure {
+    fn fmt<W: fmt::Write>(&self, f: &mut fmt::Formatter<W>) -> fmt::Result {
+        f.pad(self.name())
     }
 }
 

@@ -1,5 +1,5 @@
 // What a whole table file says.
-ghost use Rattle.std.specs.Prelude.{◌≡◌, ℕ, ◌≤◌, length, OnOk};
+ghost use Rattle.std.specs.Prelude.{◌≡◌, ℕ, OnOk};
 ghost use Rattle.table_text.specs.Files.{read_so_far, with_line, with_lines, with_slip, Tells};
 ghost use Rattle.table_text.specs.Pieces.{lines};
 
@@ -37,7 +37,6 @@ impl Reading {
 
     // Takes up all lines.
     fn take_lines(&mut self, bytes: &[u8]) -> Result<(), AllocFailed<Fault>>
-        requires { length bytes.now ≤ 16777216 }
         ensures { OnOk result (read_so_far self.new ≡ with_lines (read_so_far self.old) 1 (lines bytes.now)) }
     {
         for (i, line) in Separator::Newline.pieces(bytes).enumerate() {
