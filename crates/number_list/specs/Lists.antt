@@ -1,25 +1,21 @@
 -- The numbers that a text writes in decimal digits with commas between them.
 use Rattle.std.specs.Prelude.{◌≡◌, ℕ, List, [], ◌∷◌, ◌++◌, map, Some, None, Ok, Err, vec_items, Option, Result, Vec}
-use Rattle.std.specs.List.{join_with_byte}
+use Rattle.std.specs.List.{join_with_byte, slice_split}
+use Rattle.std.specs.Option.{option_and_then}
 use Rattle.std.specs.declared.alloc.Global.{Global}
 use Rattle.table_text.specs.Figures.{byte_value}
-use Rattle.table_text.specs.Pieces.{pieces, separates}
+use Rattle.table_text.specs.Pieces.{separates}
 use Rattle.table_text.specs.declared.pieces.Separator.TheVariants.{Comma}
 use Rattle.number_list.specs.declared.list.ListError.{ListError}
 use Rattle.number_list.specs.declared.list.ListError.TheVariants.{NoList, NoMemory}
 
--- what follows from a number, where there is one
-abbrev pub then : {X Y : Type 0} → Option X → (X → Option Y) → Option Y
-then None f = None
-then (Some x) f = f x
-
 -- the numbers that pieces write, behind those that were read; none where one of them is no number
 abbrev pub with_pieces : List ℕ → List (List ℕ) → Option (List ℕ)
 with_pieces ns [] = Some ns
-with_pieces ns (p ∷ ps) = then (byte_value p) (λ n. with_pieces (ns ++ n ∷ []) ps)
+with_pieces ns (p ∷ ps) = option_and_then (λ n. with_pieces (ns ++ n ∷ []) ps) (byte_value p)
 
 abbrev pub commas : List ℕ → List (List ℕ)
-commas bs = pieces (separates Comma) bs
+commas bs = slice_split (separates Comma) bs
 
 -- the numbers that a text writes, where it is a list
 abbrev pub listed : List ℕ → Option (List ℕ)

@@ -1,7 +1,9 @@
 // Numbers from 0 to 255 with commas between them.
+ghost use Rattle.std.specs.Prelude.{◌≡◌};
 ghost use Rattle.number_list.specs.Lists.{Reads, Writes};
+ghost use Rattle.number_list.specs.declared.list.ListError.TheVariants.{NoMemory};
 
-use std::alloc::Global;
+use std::alloc::{AllocFailed, Global};
 use table_text::figures::byte_value;
 use table_text::pieces::Separator;
 
@@ -14,6 +16,14 @@ pub enum ListError {
     NoMemory,
 }
 
+impl From<AllocFailed<u8>> for ListError {
+    ghost from_gives = { λ _ e. e ≡ NoMemory };
+
+    fn from(_unheld: AllocFailed<u8>) -> ListError {
+        ListError::NoMemory
+    }
+}
+
 // The numbers that the text writes; an empty text is the empty list.
 pub fn read_list(heap: Global, text: &[u8]) -> Result<Vec<u8>, ListError>
     ensures reads { Reads text.now result }
@@ -23,16 +33,9 @@ pub fn read_list(heap: Global, text: &[u8]) -> Result<Vec<u8>, ListError>
     if text.is_empty() {
         return Ok(numbers);
     }
-    let mut rest = Some(text);
-    while let Some(bytes) = rest {
-        let (piece, more) = Separator::Comma.next_piece(bytes);
-        let Some(number) = byte_value(piece) else {
-            return Err(ListError::NoList);
-        };
-        let Ok(()) = numbers.push(number) else {
-            return Err(ListError::NoMemory);
-        };
-        rest = more;
+    for piece in Separator::Comma.pieces(text) {
+        let number = byte_value(piece).ok_or(ListError::NoList)?;
+        numbers.push(number)?;
     }
     Ok(numbers)
 }
