@@ -1,5 +1,7 @@
 -- The sum of at most eight loads fits 64 bits.
-use Rattle.std.proofs.Common.{ℕ, ◌+◌, ◌*◌, ◌^◌, ◌<◌, ◌≤◌, mul-le-mul_right, mul_assoc, mul_comm, add-mul, mul-le-mul, mul-pos, one-mul, pow-suc, add-one, arith}
+use Rattle.std.proofs.Common.{ℕ, ◌+◌, List, length, get_or, ◌*◌, ◌^◌, ◌<◌, ◌≤◌, mul-le-mul_right, mul_assoc, mul_comm, add-mul, mul-le-mul, mul-pos, one-mul, pow-suc, add-one, arith}
+use Rattle.std.specs.List.{AllByRecursion}
+use Rattle.std.proofs.ByRecursion.{All-get_or}
 use native.Mathlib.Nat.{pow-le-pow_right}
 use Rattle.task_table.specs.Tasks.{Right}
 use Rattle.task_table.specs.declared.mode.Mode.{Mode}
@@ -47,6 +49,14 @@ demand_within High t r = high t.criticality
     high HighTask = omega (arith, r.in_time, r.one_at_a_time)
 
 -- one right task more
-pub small_with : (i : ℕ) (m : Mode) (f : Fraction) (t : Task) → Small i f.numerator f.denominator → Right t → Small (i + 1) (with_task m f t).numerator (with_task m f t).denominator
+small_with : (i : ℕ) (m : Mode) (f : Fraction) (t : Task) → Small i f.numerator f.denominator → Right t → Small (i + 1) (with_task m f t).numerator (with_task m f t).denominator
 small_with i m f t s r =
     small_more i f.numerator f.denominator (demand m t) t.period s (demand_within m t r) (omega (arith, r.runs, r.budgets, r.in_time, r.one_at_a_time)) r.short_period
+
+-- what a read past the end would give
+abbrev pub blank : Task
+blank = record { criticality = LowTask; period = 0; deadline = 0; budget_low = 0; budget_high = 0; offset = 0 }
+
+-- the task at i more, of right tasks
+pub small_at : (m : Mode) (ts : List Task) (i : ℕ) (f : Fraction) → AllByRecursion Right ts → i < length ts → Small i f.numerator f.denominator → Small (i + 1) (with_task m f (get_or ts i blank)).numerator (with_task m f (get_or ts i blank)).denominator
+small_at m ts i f rights l s = small_with i m f (get_or ts i blank) s (All-get_or Right ts i blank l rights)

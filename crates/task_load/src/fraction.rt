@@ -1,6 +1,6 @@
 // Fractions of whole numbers.
-ghost use Rattle.std.specs.Prelude.{◌≡◌, ℕ, ◌+◌, ◌*◌, ◌^◌, ◌<◌};
-ghost use Rattle.std.specs.Int.{◌∣◌};
+ghost use Rattle.std.specs.Prelude.{◌≡◌, ◌+◌, ◌*◌, ◌^◌, ◌<◌};
+ghost use Rattle.std.specs.Int.{IsGcd};
 ghost use Rattle.task_load.specs.Fractions.{plus, Same, Lowest, whole_in};
 
 use std::fmt;
@@ -11,17 +11,13 @@ pub struct Fraction {
     pub denominator: u64,
 }
 
-// The greatest number that divides both.
+// The greatest number that divides both, which the standard library does not have.
 fn common_divisor(a: u64, b: u64) -> u64
-    ensures divides { (result ∣ a) × (result ∣ b) }
-    ensures greatest { (k : ℕ) → k ∣ a → k ∣ b → k ∣ result }
+    ensures { IsGcd a b result }
 {
-    let mut x = a;
-    let mut y = b;
+    let (mut x, mut y) = (a, b);
     while y != 0 {
-        let rest = x % y;
-        x = y;
-        y = rest;
+        (x, y) = (y, x % y);
     }
     x
 }

@@ -29,8 +29,7 @@ pub fn load(table: &TaskTable, mode: Mode) -> Fraction
         numerator: 0,
         denominator: 1,
     };
-    let tasks = table.tasks();
-    for task in tasks {
+    for task in table.tasks() {
         sum = sum.plus(demand(task, mode), task.period);
     }
     sum.reduced()

@@ -3,12 +3,12 @@ use Rattle.task_load.proofs.fraction.Fraction.reduced.Goals as goal
 
 pub returns : goal.returns
 returns c = record {
-  same = same_parted c.args.self.numerator c.args.self.denominator c.common_divisor-divisor.result c.common_divisor-divisor.ensures.divides.0 c.common_divisor-divisor.ensures.divides.1 c.requires;
-  lowest = lowest_parted c.args.self.numerator c.args.self.denominator c.common_divisor-divisor.result c.common_divisor-divisor.ensures.divides.0 c.common_divisor-divisor.ensures.divides.1 c.requires c.common_divisor-divisor.ensures.greatest;
+  same = same_parted _ _ _ c.common_divisor-divisor.ensures c.requires;
+  lowest = lowest_parted _ _ _ c.common_divisor-divisor.ensures c.requires;
 }
 
 pub nonzero_div-result : goal.nonzero_div-result
-nonzero_div-result c = divisor_pos c.args.self.numerator c.args.self.denominator c.common_divisor-divisor.result c.common_divisor-divisor.ensures.divides.0 c.common_divisor-divisor.ensures.divides.1 c.requires
+nonzero_div-result c = divisor_pos _ _ _ c.common_divisor-divisor.ensures c.requires
 
 pub nonzero_div-result-2 : goal.nonzero_div-result-2
-nonzero_div-result-2 c = divisor_pos c.args.self.numerator c.args.self.denominator c.common_divisor-divisor.result c.common_divisor-divisor.ensures.divides.0 c.common_divisor-divisor.ensures.divides.1 c.requires
+nonzero_div-result-2 c = divisor_pos _ _ _ c.common_divisor-divisor.ensures c.requires
