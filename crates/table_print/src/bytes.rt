@@ -12,6 +12,7 @@ pub struct Plain<'a>(pub &'a [u8]);
 #[derive(Drop)]
 pub struct Quoted<'a>(pub &'a [u8]);
 
+// Any other byte by its number, where `escape_ascii` would write a letter for a tab and a backslash before an apostrophe.
 fn escape<W: fmt::Write>(byte: u8, f: &mut fmt::Formatter<W>) -> fmt::Result {
     match byte {
         b'"' | b'\\' => write!(f, "\\{}", char::from(byte)),

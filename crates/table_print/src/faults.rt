@@ -2,7 +2,7 @@
 use crate::bytes::{Plain, Quoted};
 use std::fmt;
 use table_text::fault::{Fault, Slip};
-use table_text::found::word_found;
+use table_text::found::{word_found, words_found};
 use task_table::refusal::DraftRefusal;
 
 // A fault with the file that it is in.
@@ -31,9 +31,9 @@ fn rule(refusal: DraftRefusal) -> &'static str {
 
 impl fmt::Display for Told<'_> {
     fn fmt<W: fmt::Write>(&self, f: &mut fmt::Formatter<W>) -> fmt::Result {
-        let line = self.fault.line;
+        let Fault { line, slip } = self.fault;
         write!(f, "line {line}: ")?;
-        match self.fault.slip {
+        match slip {
             Slip::WordCount(count) => {
                 let words = if count == 1 { "word" } else { "words" };
                 write!(f, "found {count} {words}, expected 6: ")?;
@@ -47,17 +47,16 @@ impl fmt::Display for Told<'_> {
                 write!(f, "found {word}, expected H or L for the criticality")
             }
             Slip::NoByte(figure) => {
-                let name = figure.name();
                 let word = Quoted(self.word(figure.place()));
                 write!(
                     f,
-                    "found {word}, expected a number from 0 to 255 for the {name}"
+                    "found {word}, expected a number from 0 to 255 for the {figure}"
                 )
             }
             Slip::Refused(refusal) => {
                 write!(f, "{refusal}: found")?;
-                for place in 0..6 {
-                    write!(f, " {}", Plain(self.word(place)))?;
+                for word in words_found(self.bytes, line) {
+                    write!(f, " {}", Plain(word))?;
                 }
                 write!(f, ", {}", rule(refusal))
             }

@@ -59,8 +59,10 @@ impl Fraction {
 
 impl fmt::Display for Fraction {
     fn fmt<W: fmt::Write>(&self, f: &mut fmt::Formatter<W>) -> fmt::Result {
-        let numerator = self.numerator;
-        let denominator = self.denominator;
+        let Fraction {
+            numerator,
+            denominator,
+        } = *self;
         if denominator == 1 {
             write!(f, "{numerator}")
         } else {
