@@ -1,4 +1,5 @@
 // What command lines ask for.
+use crate::cases::parts;
 use commands::command::read_words;
 use std::alloc::Global;
 use std::test::Fail;
@@ -17,17 +18,14 @@ tables => Err(UnknownCommand(\"tables\"))
 ";
 
 fn asked(heap: Global, line: &str) -> Result<String, Fail> {
-    let mut words = Vec::new(heap);
-    for word in line.split_whitespace() {
-        words.push(word)?;
-    }
+    let words = line.split_whitespace().collect::<Vec<&str>>(heap)?;
     Ok(format!(in heap; "{:?}", read_words(&words))?)
 }
 
 #[test]
 fn lines(rt: HostRuntime) -> Result<(), Fail> {
     for case in LINES.lines() {
-        let (line, wanted) = case.split_once("=> ").ok_or("no arrow")?;
+        let (line, wanted) = parts(case)?;
         let got = asked(rt.alloc(), line)?;
         assert_eq!(rt; got.as_str(), wanted, "{}", case);
     }

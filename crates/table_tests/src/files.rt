@@ -1,4 +1,5 @@
 // What table files of all kinds say.
+use crate::cases::parts;
 use std::alloc::Global;
 use std::test::Fail;
 use table_print::faults::Told;
@@ -32,33 +33,24 @@ H 3 3 2 3 11111111111111111111111111111111111111111111111111 => line 1: found \"
 H 3 3 2 3 0|||L 3 3 1 2 0 => line 4: refusal 2: these cannot be the figures of a task: found L 3 3 1 2 0, expected 1 <= low budget <= high budget <= deadline <= period <= 127, offset <= 127, and equal budgets for L
 ";
 
-fn bytes_of(heap: Global, file: &str) -> Result<Vec<u8>, Fail> {
-    let mut bytes = Vec::new(heap);
-    for byte in file.bytes() {
-        bytes.push(match byte {
-            b'|' => b'\n',
-            b'~' => b'\r',
-            b'^' => b'\t',
-            b'?' => 0xff,
-            _ => byte,
-        })?;
+// The byte that a sign of a file stands for.
+fn byte_of(sign: u8) -> u8 {
+    match sign {
+        b'|' => b'\n',
+        b'~' => b'\r',
+        b'^' => b'\t',
+        b'?' => 0xff,
+        _ => sign,
     }
-    Ok(bytes)
 }
 
 fn said_of(heap: Global, bytes: &[u8]) -> Result<String, Fail> {
     match read_table(heap, bytes) {
         Ok(table) => Ok(format!(in heap; "{} tasks", table.len())?),
-        Err(ReadError::Wrong(faults)) => match faults.first() {
-            Some(fault) => {
-                let told = Told {
-                    bytes,
-                    fault: *fault,
-                };
-                Ok(format!(in heap; "{told}")?)
-            }
-            None => Err(Fail::new("no fault")),
-        },
+        Err(ReadError::Wrong(faults)) => {
+            let fault = *faults.first().ok_or("no fault")?;
+            Ok(format!(in heap; "{}", Told { bytes, fault })?)
+        }
         Err(ReadError::TooLong) => Err(Fail::new("too long")),
         Err(ReadError::NoMemory) => Err(Fail::new("no memory")),
     }
@@ -68,8 +60,8 @@ fn said_of(heap: Global, bytes: &[u8]) -> Result<String, Fail> {
 fn files(rt: HostRuntime) -> Result<(), Fail> {
     let heap = rt.alloc();
     for case in FILES.lines() {
-        let (file, wanted) = case.split_once("=> ").ok_or("no arrow")?;
-        let bytes = bytes_of(heap, file)?;
+        let (file, wanted) = parts(case)?;
+        let bytes = file.bytes().map(byte_of).collect::<Vec<u8>>(heap)?;
         let got = said_of(heap, &bytes)?;
         assert_eq!(rt; got.as_str(), wanted, "{}", case);
     }
@@ -79,10 +71,7 @@ fn files(rt: HostRuntime) -> Result<(), Fail> {
 #[test]
 fn line_of_a_megabyte(rt: HostRuntime) -> Result<(), Fail> {
     let heap = rt.alloc();
-    let mut bytes = Vec::new(heap);
-    for _ in 0..1_000_000 {
-        bytes.push(b'7')?;
-    }
+    let bytes = vec![in heap; b'7'; 1_000_000]?;
     let got = said_of(heap, &bytes)?;
     let wanted =
         "line 1: found 1 word, expected 6: H or L, period, deadline, low budget, high budget, offset";

@@ -1,4 +1,6 @@
 // Which tasks a draft takes, and what a table asks of the processor.
+use crate::cases::parts;
+use numbered_refusals::Numbered;
 use std::alloc::Global;
 use std::process::Abort;
 use std::test::Fail;
@@ -26,23 +28,18 @@ H 0 0 0 0 0 => 2
 ";
 
 fn task_of(line: &str) -> Result<Task, Fail> {
-    match read_task(line.as_bytes())? {
-        Some(task) => Ok(task),
-        None => Err(Fail::new("no task")),
-    }
+    Ok(read_task(line.as_bytes())?.ok_or("no task")?)
 }
 
+// The number by which the answer is told, or 0 where the task was taken.
 fn answer(added: Result<(), DraftRefusal>) -> u8 {
-    match added {
-        Ok(()) => 0,
-        Err(refusal) => refusal.number(),
-    }
+    added.err().map_or(0, |refusal| refusal.number())
 }
 
 #[test]
 fn rows(rt: HostRuntime) -> Result<(), Fail> {
     for row in ROWS.lines() {
-        let (line, wanted) = row.split_once(" => ").ok_or("no arrow")?;
+        let (line, wanted) = parts(row)?;
         let mut draft = Draft::new();
         let got = answer(draft.add(task_of(line)?));
         assert_eq!(rt; got, wanted.parse::<u8>()?, "{}", row);
@@ -92,7 +89,7 @@ fn loads(rt: &impl Abort, heap: Global, tasks: &str) -> Result<String, Fail> {
 #[test]
 fn loads_are_exact(rt: HostRuntime) -> Result<(), Fail> {
     for case in LOADS.lines() {
-        let (tasks, wanted) = case.split_once("=> ").ok_or("no arrow")?;
+        let (tasks, wanted) = parts(case)?;
         let got = loads(&rt, rt.alloc(), tasks)?;
         assert_eq!(rt; got.as_str(), wanted, "{}", case);
     }
