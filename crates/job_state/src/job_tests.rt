@@ -1,27 +1,25 @@
-// Tests and changes of jobs by their tasks: what closures would say, as traits.
+// Tests and changes of jobs by their tasks.
 ghost use Rattle.std.specs.Prelude.{◌≡◌, Bool, Option};
 ghost use Rattle.task_table.specs.declared.task.Task.{Task};
 ghost use Rattle.jobs.specs.declared.job.Job.{Job};
 ghost use Rattle.job_state.specs.Lists.{every, any, lowest, over, is_absent};
+ghost use Rattle.job_state.specs.Calls.{Answers};
 
 use jobs::Job;
 use task_table::task::Task;
 
-// A test of a task and its job.
-pub trait JobTest {
-    ghost passes: { Self → Task → Job → Bool };
-
-    fn test(&self, task: &Task, job: Job) -> bool
-        ensures { result ≡ passes self.now task.now job };
-}
-
 // The lowest number of a task whose job passes.
-pub fn lowest_passing<T: JobTest>(test: &T, tasks: &[Task], jobs: &[Job]) -> Option<usize>
-    ensures { result ≡ lowest (T.JobTest.passes test.now) 0 tasks.now jobs.now }
+#[tactic(auto, using(crate::proofs::Loops::lowest_end))]
+pub fn lowest_passing<F: Fn(&Task, Job) -> bool>(
+    test: F,
+    tasks: &[Task],
+    jobs: &[Job],
+) -> Option<usize>
+    requires { F.IsAlwaysCallable test }
+    ensures { (passes : Task → Job → Bool) → Answers F.Fn test passes → result ≡ lowest passes 0 tasks.now jobs.now }
 {
-    let n = tasks.len().min(jobs.len());
-    for i in 0..n {
-        if test.test(&tasks[i], jobs[i]) {
+    for (i, (task, job)) in tasks.iter().zip(jobs).enumerate() {
+        if test(task, *job) {
             return Some(i + 1);
         }
     }
@@ -29,21 +27,23 @@ pub fn lowest_passing<T: JobTest>(test: &T, tasks: &[Task], jobs: &[Job]) -> Opt
 }
 
 // Whether some task has a job that passes.
-pub fn any_passes<T: JobTest>(test: &T, tasks: &[Task], jobs: &[Job]) -> bool
-    ensures { result ≡ any (T.JobTest.passes test.now) tasks.now jobs.now }
+pub fn any_passes<F: Fn(&Task, Job) -> bool>(test: F, tasks: &[Task], jobs: &[Job]) -> bool
+    requires { F.IsAlwaysCallable test }
+    ensures { (passes : Task → Job → Bool) → Answers F.Fn test passes → result ≡ any passes tasks.now jobs.now }
 {
     lowest_passing(test, tasks, jobs).is_some()
 }
 
 // Whether every task has a job that passes, and there are no other jobs.
-pub fn every_passes<T: JobTest>(test: &T, tasks: &[Task], jobs: &[Job]) -> bool
-    ensures { result ≡ every (T.JobTest.passes test.now) tasks.now jobs.now }
+#[tactic(auto, using(crate::proofs::Loops::every_end))]
+pub fn every_passes<F: Fn(&Task, Job) -> bool>(test: F, tasks: &[Task], jobs: &[Job]) -> bool
+    requires { F.IsAlwaysCallable test }
+    ensures { (passes : Task → Job → Bool) → Answers F.Fn test passes → result ≡ every passes tasks.now jobs.now }
 {
     for (i, job) in jobs.iter().enumerate() {
-        let passes = if i < tasks.len() {
-            test.test(&tasks[i], *job)
-        } else {
-            is_absent(*job)
+        let passes = match tasks.get(i) {
+            Some(task) => test(task, *job),
+            None => *job == Job::Absent,
         };
         if !passes {
             return false;
@@ -52,29 +52,15 @@ pub fn every_passes<T: JobTest>(test: &T, tasks: &[Task], jobs: &[Job]) -> bool
     tasks.len() <= jobs.len()
 }
 
-fn is_absent(job: Job) -> bool
-    ensures { result ≡ is_absent job }
-{
-    match job {
-        Job::Absent => true,
-        _ => false,
-    }
-}
-
-// A change of a job by its task.
-pub trait JobChange {
-    ghost changed: { Self → Task → Job → Job };
-
-    fn change(&self, task: &Task, job: Job) -> Job
-        ensures { result ≡ changed self.now task.now job };
-}
-
 // Changes each job that has a task.
-pub fn change_all<C: JobChange>(by: &C, tasks: &[Task], jobs: &mut [Job])
-    ensures { jobs.new ≡ over (C.JobChange.changed by.now) tasks.now jobs.old }
+#[tactic(auto, using(crate::proofs::Loops::over_all))]
+pub fn change_all<F: Fn(&Task, Job) -> Job>(change: F, tasks: &[Task], jobs: &mut [Job])
+    requires { F.IsAlwaysCallable change }
+    ensures { (changed : Task → Job → Job) → Answers F.Fn change changed → jobs.new ≡ over changed tasks.now jobs.old }
 {
-    let n = tasks.len().min(jobs.len());
-    for i in 0..n {
-        jobs[i] = by.change(&tasks[i], jobs[i]);
+    for (i, job) in jobs.iter_mut().enumerate() {
+        if let Some(task) = tasks.get(i) {
+            *job = change(task, *job);
+        }
     }
 }

@@ -2,7 +2,6 @@
 #![tactic(auto)]
 
 pub mod job_tests;
-mod rules;
 pub mod state;
 
 pub use state::State;

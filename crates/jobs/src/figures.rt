@@ -8,13 +8,11 @@ use task_table::mode::Mode;
 use task_table::task::{Criticality, Task};
 
 // Whether the task is of high criticality.
+#[tactic(auto, unfolding(crate::specs::Tasks::is_high))]
 pub fn is_high(task: &Task) -> bool
     ensures { result ≡ is_high task.now }
 {
-    match task.criticality {
-        Criticality::Low => false,
-        Criticality::High => true,
-    }
+    task.criticality == Criticality::High
 }
 
 // The time to the deadline of the task's ready job, which has this wait: 0 or less where it is late.

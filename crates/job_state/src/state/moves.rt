@@ -5,7 +5,6 @@ ghost use Rattle.job_state.specs.States.{first as first_state};
 ghost use Rattle.job_state.specs.Releases.{release_answer, released};
 
 use crate::job_tests::change_all;
-use crate::rules::First;
 use crate::state::State;
 use jobs::{Job, JobRefusal, Kind};
 use task_table::mode::Mode;
@@ -17,7 +16,7 @@ impl State {
         ensures { result ≡ first_state kind tasks.now }
     {
         let mut jobs = [Job::Absent; 8];
-        change_all(&First { kind }, tasks, &mut jobs);
+        change_all(|task, _| Job::first(kind, task), tasks, &mut jobs);
         State {
             mode: Mode::Low,
             jobs,

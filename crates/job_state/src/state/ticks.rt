@@ -67,13 +67,15 @@ fn wait_all(jobs: &mut [Job])
 }
 
 // Low tasks are dropped, and ready high jobs gain.
+#[tactic(auto, using(crate::proofs::Loops::over_all))]
 fn raise_all(tasks: &[Task], jobs: &mut [Job])
     requires { any over_budget tasks.now jobs.old ≡ false }
     ensures { jobs.new ≡ over raised_job tasks.now jobs.old }
 {
-    let n = tasks.len().min(jobs.len());
-    for i in 0..n {
-        jobs[i] = raise(jobs[i], &tasks[i]);
+    for (i, job) in jobs.iter_mut().enumerate() {
+        if let Some(task) = tasks.get(i) {
+            *job = raise(*job, task);
+        }
     }
 }
 

@@ -3,4 +3,4 @@ use Rattle.jobs.specs.Moves.{waited}
 use Rattle.job_state.proofs.state.ticks.wait_all.Given as goal
 
 abbrev pub invariant-loop-job : goal.invariant-loop-job
-invariant-loop-job l = l.jobs ≡ map waited (take l.job-index l.initial.jobs) ++ drop l.job-index l.initial.jobs
+invariant-loop-job l = take l.job-index l.jobs ++ map waited (drop l.job-index l.jobs) ≡ map waited l.initial.jobs
