@@ -10,7 +10,7 @@ use Rattle.policies.specs.Layers.{high_first, shortened}
 
 -- the pick by a figure
 abbrev pub order_picks : Order → Pick
-order_picks (FixedOrder p) ts m xs = least (by_rank p.by.ranks) ts xs
+order_picks (FixedOrder p) ts m xs = least (by_rank p.by.figures) ts xs
 order_picks (EarliestDeadline p) ts m xs = least by_deadline ts xs
 order_picks (LeastLaxity p) ts m xs = least (by_laxity m) ts xs
 

@@ -16,12 +16,12 @@ use Rattle.policies.specs.Chosen.{least_ready}
 use Rattle.policies.specs.Shows.{high_first_ready, high_first_blind, shortened_ready}
 
 pub order_ready : (p : Order) (ts : List Task) (m : Mode) (xs : List Job) → PicksReady ts xs (order_picks p ts m xs)
-order_ready (FixedOrder p) ts m xs = least_ready (by_rank p.by.ranks) ts xs
+order_ready (FixedOrder p) ts m xs = least_ready (by_rank p.by.figures) ts xs
 order_ready (EarliestDeadline p) ts m xs = least_ready by_deadline ts xs
 order_ready (LeastLaxity p) ts m xs = least_ready (by_laxity m) ts xs
 
 pub order_blind : (p : Order) (ts : List Task) (m : Mode) (xs ys : List Job) → map seen xs ≡ map seen ys → order_picks p ts m xs ≡ order_picks p ts m ys
-order_blind (FixedOrder p) ts m xs ys h = least_blind (by_rank p.by.ranks) ts xs ys h
+order_blind (FixedOrder p) ts m xs ys h = least_blind (by_rank p.by.figures) ts xs ys h
 order_blind (EarliestDeadline p) ts m xs ys h = least_blind by_deadline ts xs ys h
 order_blind (LeastLaxity p) ts m xs ys h = least_blind (by_laxity m) ts xs ys h
 

@@ -23,6 +23,10 @@ abbrev pub better : Best → Option Best → Option Best
 better b None = Some b
 better b (Some c) = cond (int_le b.figure c.figure) (Some b) (Some c)
 
+-- the same of two
+abbrev pub first_less : Best → Best → Best
+first_less b c = cond (int_le b.figure c.figure) b c
+
 -- the best of the task of that number, where it has a figure, and of those after it
 abbrev pub offered : ℕ → Option ℤ → Option Best → Option Best
 offered n None o = o

@@ -1,9 +1,9 @@
 // The best task so far.
 ghost use Rattle.std.specs.Prelude.{◌≡◌};
-ghost use Rattle.policies.specs.Leasts.{better, offered};
+ghost use Rattle.policies.specs.Leasts.{first_less};
 
 // A task's number and its figure.
-#[derive(Clone, Copy)]
+#[derive(Clone, Copy, Debug, PartialEq, Eq)]
 pub struct Best {
     pub number: usize,
     pub figure: i16,
@@ -11,28 +11,13 @@ pub struct Best {
 
 impl Best {
     // This one, unless the other has a smaller figure.
-    pub(crate) fn or_less(self, other: Option<Best>) -> Option<Best>
-        ensures { result ≡ better self other }
+    pub(crate) fn or_less(self, other: Best) -> Best
+        ensures { result ≡ first_less self other }
     {
-        match other {
-            Some(best) => {
-                if self.figure <= best.figure {
-                    Some(self)
-                } else {
-                    Some(best)
-                }
-            }
-            None => Some(self),
+        if self.figure <= other.figure {
+            self
+        } else {
+            other
         }
-    }
-}
-
-// The best of the task of that number, where it has a figure, and of those after it.
-pub(crate) fn offer(number: usize, figure: Option<i16>, after: Option<Best>) -> Option<Best>
-    ensures { result ≡ offered number figure after }
-{
-    match figure {
-        Some(figure) => Best { number, figure }.or_less(after),
-        None => after,
     }
 }

@@ -6,7 +6,7 @@ use crate::orders::{EarliestDeadline, FixedOrder, LeastLaxity};
 use crate::shortened::Shortened;
 
 // The figure that is gone by.
-#[derive(Clone, Copy)]
+#[derive(Clone, Copy, Debug)]
 pub enum Order {
     FixedOrder(FixedOrder),
     EarliestDeadline(EarliestDeadline),
@@ -14,7 +14,7 @@ pub enum Order {
 }
 
 // The layers over it.
-#[derive(Clone, Copy)]
+#[derive(Clone, Copy, Debug)]
 pub enum Choice {
     Plain(Order),
     HighFirst(HighFirst<Order>),

@@ -6,14 +6,14 @@ ghost use Rattle.policies.specs.Shows.{high_first_ready, high_first_blind};
 
 use crate::policy::Policy;
 use job_state::State;
-use job_state::job_tests::{JobChange, JobTest, any_passes, change_all};
+use job_state::job_tests::{any_passes, change_all};
 use jobs::Job;
 use jobs::figures::is_high;
 use task_table::mode::Mode;
 use task_table::task::Task;
 
 // In low mode, whenever a high task is ready, the policy below sees every ready low task as idle with wait 0.
-#[derive(Clone, Copy)]
+#[derive(Clone, Copy, Debug)]
 pub struct HighFirst<P> {
     pub below: P,
 }
@@ -31,6 +31,7 @@ impl<P: Policy> Policy for HighFirst<P> {
 }
 
 // The state as the policy below sees it.
+#[tactic(auto, unfolding(crate::specs::Layers::high_first))]
 fn show(tasks: &[Task], state: &State) -> State
     ensures mode { result.mode ≡ state.now.mode }
     ensures jobs { result.jobs ≡ high_first tasks.now state.now.mode state.now.jobs }
@@ -41,50 +42,31 @@ fn show(tasks: &[Task], state: &State) -> State
     }
 }
 
+#[tactic(auto, unfolding(crate::specs::Layers::high_first))]
 fn show_low(tasks: &[Task], state: &State) -> State
     ensures mode { result.mode ≡ state.now.mode }
     ensures jobs { result.jobs ≡ high_first tasks.now Low state.now.jobs }
 {
-    if !any_passes(&HighReady, tasks, &state.jobs) {
-        return *state;
-    }
     let mut shown = *state;
-    change_all(&Hide, tasks, &mut shown.jobs);
+    if any_passes(is_high_ready, tasks, &state.jobs) {
+        change_all(hide, tasks, &mut shown.jobs);
+    }
     shown
 }
 
-// The task is high, and its job is ready.
-#[derive(Clone, Copy)]
-struct HighReady;
-
-impl JobTest for HighReady {
-    ghost passes = { λ _. high_ready };
-
-    fn test(&self, task: &Task, job: Job) -> bool {
-        match job {
-            Job::Ready { .. } => is_high(task),
-            _ => false,
-        }
-    }
+// Whether the task is high, and its job is ready.
+fn is_high_ready(task: &Task, job: Job) -> bool
+    ensures { result ≡ high_ready task.now job }
+{
+    matches!(job, Job::Ready { .. }) && is_high(task)
 }
 
 // A ready low task is shown as idle with wait 0.
-#[derive(Clone, Copy)]
-struct Hide;
-
-impl JobChange for Hide {
-    ghost changed = { λ _. hidden };
-
-    fn change(&self, task: &Task, job: Job) -> Job {
-        match job {
-            Job::Ready { .. } => {
-                if is_high(task) {
-                    job
-                } else {
-                    Job::Idle { wait: 0 }
-                }
-            }
-            _ => job,
-        }
+fn hide(task: &Task, job: Job) -> Job
+    ensures { result ≡ hidden task.now job }
+{
+    match job {
+        Job::Ready { .. } if !is_high(task) => Job::Idle { wait: 0 },
+        _ => job,
     }
 }

@@ -4,7 +4,7 @@ ghost use Rattle.policies.specs.Leasts.{best as best_of, least, Least as Leasts}
 ghost use Rattle.policies.specs.Chosen.{least_ready};
 ghost use Rattle.policies.specs.Bests.{least_blind};
 
-use crate::best::{Best, offer};
+use crate::best::Best;
 use crate::figure::{Figure, figure_of};
 use crate::policy::Policy;
 use job_state::State;
@@ -12,21 +12,24 @@ use jobs::Job;
 use task_table::mode::Mode;
 use task_table::task::Task;
 
-// The least figure and whose it is: the loop goes down, so that the earlier of two equals stays.
+// The least figure and whose it is: the earlier of two equals stays.
+#[tactic(auto, using(crate::specs::Bests::best_end))]
 pub fn best<F: Figure>(by: &F, mode: Mode, tasks: &[Task], jobs: &[Job]) -> Option<Best>
     ensures { result ≡ best_of (F.Figure.figured by.now mode) 0 tasks.now jobs.now }
 {
     let mut best: Option<Best> = None;
-    let n = tasks.len().min(jobs.len());
-    for i in (0..n).rev() {
-        let figure = figure_of(by, mode, i + 1, &tasks[i], jobs[i]);
-        best = offer(i + 1, figure, best);
+    for (i, (task, job)) in tasks.iter().zip(jobs).enumerate() {
+        let number = i + 1;
+        if let Some(figure) = figure_of(by, mode, number, task, *job) {
+            let found = Best { number, figure };
+            best = Some(best.map_or(found, |earlier| earlier.or_less(found)));
+        }
     }
     best
 }
 
 // The policy that picks the least figure.
-#[derive(Clone, Copy)]
+#[derive(Clone, Copy, Debug)]
 pub struct Least<F> {
     pub by: F,
 }
@@ -42,9 +45,6 @@ impl<F: Figure> Policy for Least<F> {
         ensures picks { result ≡ least (F.Figure.figured self.now.by state.now.mode) tasks.now state.now.jobs }
         ensures least { Leasts (F.Figure.figured self.now.by state.now.mode) tasks.now state.now.jobs result }
     {
-        match best(&self.by, state.mode, tasks, &state.jobs) {
-            Some(best) => Some(best.number),
-            None => None,
-        }
+        best(&self.by, state.mode, tasks, &state.jobs).map(|best| best.number)
     }
 }

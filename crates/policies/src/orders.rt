@@ -1,22 +1,19 @@
 // Three figures, and the policies that go by them.
-ghost use Rattle.std.specs.Prelude.{◌≡◌, length};
+ghost use Rattle.std.specs.Prelude.{◌≡◌};
 ghost use Rattle.policies.specs.Figures.{by_rank, by_deadline, by_laxity};
 
 use crate::figure::Figure;
 use crate::least::Least;
+use crate::per_task::PerTask;
 use jobs::figures::{time_to_deadline, worst_laxity};
 use task_table::mode::Mode;
 use task_table::task::Task;
 
 // A stored rank for each task.
-#[derive(Clone, Copy)]
-pub struct Ranks {
-    pub ranks: [u8; 8],
-    ghost wide: { length ranks ≡ 8 },
-}
+pub type Ranks = PerTask;
 
 impl Figure for Ranks {
-    ghost figured = { λ p _. by_rank p.ranks };
+    ghost figured = { λ p _. by_rank p.figures };
 
     fn figure(
         &self,
@@ -26,17 +23,13 @@ impl Figure for Ranks {
         _wait: u8,
         _left: u8,
     ) -> Option<i16> {
-        let i = number.saturating_sub(1);
-        if i < 8 {
-            Some(i16::from(self.ranks[i]))
-        } else {
-            Some(0)
-        }
+        let rank = self.figures.get(number.saturating_sub(1)).copied();
+        Some(i16::from(rank.unwrap_or(0)))
     }
 }
 
 // The time to the deadline.
-#[derive(Clone, Copy)]
+#[derive(Clone, Copy, Debug)]
 pub struct Deadline;
 
 impl Figure for Deadline {
@@ -48,7 +41,7 @@ impl Figure for Deadline {
 }
 
 // The worst laxity.
-#[derive(Clone, Copy)]
+#[derive(Clone, Copy, Debug)]
 pub struct Laxity;
 
 impl Figure for Laxity {

@@ -1,17 +1,13 @@
 // A layer that shortens deadlines.
 mod layer;
 
-ghost use Rattle.std.specs.Prelude.{◌≡◌, length};
+use crate::per_task::PerTask;
 
-// A figure for each task.
-#[derive(Clone, Copy)]
-pub struct Deadlines {
-    pub figures: [u8; 8],
-    ghost wide: { length figures ≡ 8 },
-}
+// The deadlines that are shown, one for each task.
+pub type Deadlines = PerTask;
 
 // In low mode the policy below sees, as a task's deadline, the lesser of its deadline and its figure.
-#[derive(Clone, Copy)]
+#[derive(Clone, Copy, Debug)]
 pub struct Shortened<P> {
     pub below: P,
     pub deadlines: Deadlines,

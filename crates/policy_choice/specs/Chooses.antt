@@ -69,7 +69,7 @@ selected c tasks = then (selected_order c tasks) (λ g. then (selected_deadlines
 -- the code's policies in the same terms
 
 abbrev pub order_seen : Order → GoesBy
-order_seen (FixedOrder p) = ranks p.by.ranks
+order_seen (FixedOrder p) = ranks p.by.figures
 order_seen (EarliestDeadline p) = deadline
 order_seen (LeastLaxity p) = laxity
 

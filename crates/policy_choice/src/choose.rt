@@ -18,13 +18,13 @@ use policies::{Choice, HighFirst, Order, Shortened};
 const ROWS: [u8; 8] = [1, 2, 3, 4, 5, 6, 7, 8];
 
 fn selected_ranks(settings: &Settings, tasks: usize) -> Result<Ranks, WrongCount>
-    ensures { Says (λ p. p.ranks) (selected_ranks (chosen_in settings.now) tasks) result }
+    ensures { Says (λ p. p.figures) (selected_ranks (chosen_in settings.now) tasks) result }
 {
-    let ranks = match &settings.ranks {
+    let figures = match &settings.ranks {
         Some(numbers) => one_each(Key::Ranks, numbers, tasks)?,
         None => ROWS,
     };
-    Ok(Ranks { ranks })
+    Ok(Ranks { figures })
 }
 
 fn selected_order(settings: &Settings, tasks: usize) -> Result<Order, WrongCount>

@@ -12,7 +12,7 @@ fn order_named(word: &str) -> Option<Order> {
     let ranks = RANKS;
     match word {
         "fixed" => Some(Order::FixedOrder(Least {
-            by: Ranks { ranks },
+            by: Ranks { figures: ranks },
         })),
         "deadline" => Some(Order::EarliestDeadline(Least { by: Deadline })),
         "laxity" => Some(Order::LeastLaxity(Least { by: Laxity })),

@@ -7,17 +7,7 @@ use crate::policy::Policy;
 use crate::shortened::Shortened;
 use job_state::State;
 use task_table::mode::Mode;
-use task_table::task::{Criticality, Task};
-
-// What is there where no task is shown.
-const UNUSED: Task = Task {
-    criticality: Criticality::Low,
-    period: 1,
-    deadline: 1,
-    budget_low: 1,
-    budget_high: 1,
-    offset: 0,
-};
+use task_table::task::Task;
 
 impl<P: Policy> Policy for Shortened<P> {
     ghost picks = { λ p tasks mode jobs. P.Policy.picks p.below (shortened p.deadlines.figures mode tasks) mode jobs };
@@ -26,10 +16,11 @@ impl<P: Policy> Policy for Shortened<P> {
 
     ghost blind = { λ p tasks mode xs ys h. P.Policy.blind p.below (shortened p.deadlines.figures mode tasks) mode xs ys h };
 
+    #[tactic(auto, unfolding(crate::specs::Layers::shortened))]
     fn pick(&self, tasks: &[Task], state: &State) -> Option<usize> {
         match state.mode {
             Mode::Low => {
-                let mut shown = [UNUSED; 8];
+                let mut shown = [Task::UNUSED; 8];
                 shorten_all(&self.deadlines.figures, tasks, &mut shown);
                 self.below.pick(&shown[0..tasks.len().min(8)], state)
             }
@@ -54,8 +45,7 @@ fn shorten_all(figures: &[u8], tasks: &[Task], shown: &mut [Task])
     requires room { length shown.old ≡ 8 }
     ensures { take (min (length tasks.now) 8) shown.new ≡ shorts figures.now tasks.now }
 {
-    let n = tasks.len().min(8);
-    for i in 0..n {
-        shown[i] = shorten(&tasks[i], figures[i]);
+    for (i, (task, figure)) in tasks.iter().zip(figures).enumerate() {
+        shown[i] = shorten(task, *figure);
     }
 }

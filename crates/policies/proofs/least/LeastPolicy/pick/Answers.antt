@@ -1,20 +1,12 @@
-use Rattle.std.proofs.Common.{sym, ap, subst}
-use Rattle.policies.specs.Leasts.{number_of, Least}
+use Rattle.std.proofs.Common.{rules, ◌≡◌, sym, subst}
+use Rattle.policies.specs.Leasts.{least, Least}
 use Rattle.policies.specs.Chosen.{least_leads}
 use Rattle.policies.proofs.least.LeastPolicy.pick.Goals as goal
 
-pub returns-in-Some : goal.returns-in-Some
-returns-in-Some g c =
+pub returns : goal.returns
+returns g c =
     let f = g.F.Figure.figured c.args.self.now.by c.args.state.now.mode in
     let ts = c.args.tasks.now in
     let xs = c.args.state.now.jobs in
-    let is = ap number_of c.in-Some.ensures in
-    record { picks = is; least = subst (Least f ts xs) (sym is) (least_leads f ts xs) }
-
-pub returns-in-None : goal.returns-in-None
-returns-in-None g c =
-    let f = g.F.Figure.figured c.args.self.now.by c.args.state.now.mode in
-    let ts = c.args.tasks.now in
-    let xs = c.args.state.now.jobs in
-    let is = ap number_of c.in-None.ensures in
+    let is : c.map.result ≡ least f ts xs = search rules in
     record { picks = is; least = subst (Least f ts xs) (sym is) (least_leads f ts xs) }

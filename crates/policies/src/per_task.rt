@@ -1,0 +1,8 @@
+// A figure for each task.
+ghost use Rattle.std.specs.Prelude.{◌≡◌, length};
+
+#[derive(Clone, Copy, Debug, PartialEq, Eq)]
+pub struct PerTask {
+    pub figures: [u8; 8],
+    ghost wide: { length figures ≡ 8 },
+}
