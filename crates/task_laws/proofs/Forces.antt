@@ -70,7 +70,7 @@ module _ (pick : Pick) (kind : Kind) (tasks : List Task) (T : Table tasks) (L : 
   unfolding late
   on_time v h = h
 
-  module _ (v : State) (t : Lost v) (result_Fits : (c : ℕ) (w : State) → Gave pick kind tasks c v w → fits kind tasks w ≡ true) where
+  module _ (v : State) (t : Lost v) (result_fits : (c : ℕ) (w : State) → Gave pick kind tasks c v w → fits kind tasks w ≡ true) where
     abbrev row : Task
     row = t.mark.row
 
@@ -118,7 +118,7 @@ module _ (pick : Pick) (kind : Kind) (tasks : List Task) (T : Table tasks) (L : 
         let s = m.is in
         let p = miss_is kind tasks w m in
         let q = miss_is kind tasks v t.mark in
-        (w, e, inr (any_doomed w (result_Fits c w g) a, omega arith))
+        (w, e, inr (any_doomed w (result_fits c w g) a, omega arith))
 
     unserved : (fin : Bool) (w : State) → Gave pick kind tasks (cond fin 10 9) v w → w.mode ≡ v.mode → Has tasks w.jobs i row (ticked_job fin false false row job) → Goes (cond fin 10 9)
     unserved fin w g m h =

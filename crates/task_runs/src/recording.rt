@@ -10,7 +10,7 @@ use jobs::{JobRefusal, Kind};
 use policies::Policy;
 use run_steps::{Step, record_steps};
 use std::alloc::{AllocError, Global};
-use task_systems::{Periodic, Sporadic};
+use task_systems::TaskSystem;
 use task_table::table::TaskTable;
 use transition::Run;
 
@@ -28,14 +28,6 @@ pub fn record_run<P: Policy + Copy>(
     ensures steps { IfOk result (λ v. v.items ≡ steps (meaning (P.Policy.picks policy.now) kind (tasks_of table.now)) (first kind (tasks_of table.now)) events.now) }
     ensures tell { IfOk result (λ v. Tell (meaning (P.Policy.picks policy.now) kind (tasks_of table.now)) (first kind (tasks_of table.now)) events.now v.items) }
 {
-    match kind {
-        Kind::Sporadic => {
-            let mut run = Run::new(Sporadic::new(*table, *policy));
-            record_steps(heap, &mut run, events)
-        }
-        Kind::Periodic => {
-            let mut run = Run::new(Periodic::new(*table, *policy));
-            record_steps(heap, &mut run, events)
-        }
-    }
+    let mut run = Run::new(TaskSystem::of(kind, *table, *policy));
+    record_steps(heap, &mut run, events)
 }

@@ -1,2 +1,1 @@
 pub mod Given
-pub mod Simulate

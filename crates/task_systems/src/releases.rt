@@ -13,7 +13,7 @@ pub trait Releases {
 }
 
 // At any time, a period or more after one another.
-#[derive(Clone, Copy)]
+#[derive(Clone, Copy, Debug, Default)]
 pub struct SporadicReleases;
 
 impl Releases for SporadicReleases {
@@ -25,7 +25,7 @@ impl Releases for SporadicReleases {
 }
 
 // As soon as the wait is over, the first after the offset.
-#[derive(Clone, Copy)]
+#[derive(Clone, Copy, Debug, Default)]
 pub struct PeriodicReleases;
 
 impl Releases for PeriodicReleases {
@@ -33,5 +33,14 @@ impl Releases for PeriodicReleases {
 
     fn kind(&self) -> Kind {
         Kind::Periodic
+    }
+}
+
+// As the kind says that is given at run time.
+impl Releases for Kind {
+    ghost comes = { λ k. k };
+
+    fn kind(&self) -> Kind {
+        *self
     }
 }

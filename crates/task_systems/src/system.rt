@@ -9,7 +9,7 @@ ghost use Rattle.task_systems.specs.Tables.{table_of};
 use crate::events::{EVENTS as EVENT_COUNT, next as next_state};
 use crate::forces::forced_event as force;
 use crate::lateness::{is_doomed_in, is_late_in};
-use crate::releases::Releases;
+use crate::releases::{PeriodicReleases, Releases, SporadicReleases};
 use crate::simulation::does_simulate;
 use job_state::State;
 use jobs::JobRefusal;
@@ -35,6 +35,22 @@ impl<R, P> TaskSystem<R, P> {
             table,
             policy,
         }
+    }
+}
+
+// Tasks whose jobs come at any time, a period or more after one another.
+pub type Sporadic<P> = TaskSystem<SporadicReleases, P>;
+
+// Tasks whose jobs come as soon as their wait is over, the first after the offset.
+pub type Periodic<P> = TaskSystem<PeriodicReleases, P>;
+
+impl<R: Releases + Default, P> TaskSystem<R, P> {
+    // The system whose type says how jobs come.
+    pub fn new(table: TaskTable, policy: P) -> Self
+        ensures table { result.table ≡ table }
+        ensures policy { result.policy ≡ policy }
+    {
+        TaskSystem::of(R::default(), table, policy)
     }
 }
 

@@ -14,7 +14,7 @@ use jobs::Kind;
 use policies::EarliestDeadline;
 use policies::least::Least;
 use policies::orders::Deadline;
-use task_systems::{Periodic, Sporadic};
+use task_systems::TaskSystem;
 use task_table::table::TaskTable;
 use transition::Run;
 
@@ -29,16 +29,7 @@ const EARLIEST: EarliestDeadline = Least { by: Deadline };
 pub fn run_earliest(kind: Kind, table: &TaskTable, events: &[u8]) -> State
     ensures { result ≡ walk (meaning earliest kind (tasks_of table.now)) (first kind (tasks_of table.now)) events.now }
 {
-    match kind {
-        Kind::Sporadic => {
-            let mut run = Run::new(Sporadic::new(*table, EARLIEST));
-            run.call_all(events);
-            *run.state()
-        }
-        Kind::Periodic => {
-            let mut run = Run::new(Periodic::new(*table, EARLIEST));
-            run.call_all(events);
-            *run.state()
-        }
-    }
+    let mut run = Run::new(TaskSystem::of(kind, *table, EARLIEST));
+    run.call_all(events);
+    *run.state()
 }
