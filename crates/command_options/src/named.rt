@@ -14,10 +14,5 @@ pub trait Named {
 pub fn find_named<N: Named + Copy>(all: &[N], word: &str) -> Option<N>
     ensures { result ≡ first_named N.Named.spelled all.now word.now }
 {
-    for one in all {
-        if one.word() == word {
-            return Some(*one);
-        }
-    }
-    None
+    all.iter().find(|one| one.word() == word).copied()
 }

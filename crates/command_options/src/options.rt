@@ -42,7 +42,7 @@ impl Named for Key {
 }
 
 // An option that stands alone.
-#[derive(Clone, Copy)]
+#[derive(Clone, Copy, Debug, PartialEq, Eq)]
 pub enum Flag {
     HighFirst,
     Porcelain,

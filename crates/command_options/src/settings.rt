@@ -14,7 +14,7 @@ pub enum OrderName {
     Laxity,
 }
 
-#[derive(Debug, Drop)]
+#[derive(Debug, PartialEq, Eq, Drop)]
 pub struct Settings {
     pub kind: Kind,
     pub order: OrderName,
@@ -46,10 +46,7 @@ impl Settings {
     pub fn has_loose_ranks(&self) -> bool
         ensures { result ≡ loose_ranks (chosen_in self.now) }
     {
-        match self.order {
-            OrderName::Fixed => false,
-            OrderName::Deadline | OrderName::Laxity => self.ranks.is_some(),
-        }
+        self.ranks.is_some() && self.order != OrderName::Fixed
     }
 }
 
