@@ -1,6 +1,0 @@
-// Where a table is read from.
-#[derive(Clone, Copy, Debug)]
-pub enum Source<'a> {
-    Input,
-    File(&'a str),
-}
