@@ -1,14 +1,12 @@
 -- The words behind a command, taken up one by one.
-use Rattle.std.specs.Prelude.{ℕ, Bool, true, false, cond, List, [], ◌∷◌, Some, None, Ok, Err, vec_items, codes, Option, Result, ◌==◌}
+use Rattle.std.specs.Prelude.{ℕ, Bool, true, false, cond, List, [], ◌∷◌, Some, None, Ok, Err, vec_items, Option, Result}
 use Rattle.std.specs.Option.{option_map, ok_or}
-use Rattle.std.specs.Str.{bytes_eq}
 use Rattle.command_options.specs.Choices.{Chosen, unchosen, with_kind, with_order, with_ranks, with_shorten, with_high_first, with_porcelain, chosen_in}
 use Rattle.command_options.specs.Named.{Word, first_named}
 use Rattle.command_options.specs.Options.{key_word, keys, flag_word, flags, kind_word, kinds, order_word, orders}
 use Rattle.number_list.specs.Lists.{listed}
 use Rattle.table_text.specs.Figures.{value_within}
-use Rattle.command_reading.specs.declared.source.Source.{Source}
-use Rattle.command_reading.specs.declared.source.Source.TheVariants.{Input, File}
+use Rattle.table_source.specs.Sources.{From, source, is_option, from_source}
 use Rattle.command_options.specs.declared.options.Key.{Key}
 use Rattle.command_options.specs.declared.options.Key.TheVariants as key
 use Rattle.command_options.specs.declared.options.Flag.{Flag}
@@ -18,11 +16,6 @@ use Rattle.command_reading.specs.declared.reading.Reading.{Reading}
 use Rattle.command_reading.specs.declared.verb.Verb.{Verb}
 use Rattle.command_reading.specs.Misuses.{Wrong, unknown_option, not_here, one_too_many, bad_value, then}
 use Rattle.command_reading.specs.Verbs.{takes_key, takes_flag}
-
--- where a table is read from: standard input, or the file of that name
-pub data From : Type 0 where
-  input : From
-  file : Word → From
 
 -- how a check goes
 pub record Bounds : Type 0 where
@@ -99,12 +92,6 @@ with_value r key.Events w = then (list_given key.Events w) (λ ns. Ok (with_even
 with_value r key.Nodes w = then (number_given key.Nodes w) (λ n. Ok (bounded_anew r (with_nodes n r.bounds)))
 with_value r key.Visits w = then (number_given key.Visits w) (λ n. Ok (bounded_anew r (with_visits n r.bounds)))
 
--- an option begins with '-' and is not that sign alone
-abbrev pub is_option : Word → Bool
-is_option [] = false
-is_option (b ∷ []) = false
-is_option (b ∷ c ∷ bs) = b == 45
-
 -- an option is taken up where the command has it: a flag at once, any other with its value
 abbrev pub with_key : Verb → Read → Word → Option Key → Result Read Wrong
 with_key v r w None = Err (unknown_option w)
@@ -116,9 +103,6 @@ with_named v r w (Some f) = cond (takes_flag v f) (Ok (with_flag r f)) (Err (not
 
 abbrev pub with_option : Verb → Read → Word → Result Read Wrong
 with_option v r w = with_named v r w (first_named flag_word flags w)
-
-abbrev pub source : Word → From
-source w = cond (bytes_eq w (codes "-")) input (file w)
 
 -- one file at most
 abbrev pub with_file : Read → Option From → Word → Result Read Wrong
@@ -135,10 +119,6 @@ with_words v r [] = Ok r
 with_words v r (w ∷ ws) = then (with_word v r r.waiting w) (λ s. with_words v s ws)
 
 -- the code's reading in the same terms
-
-abbrev pub from_source : Source → From
-from_source Input = input
-from_source (File w) = file w.now
 
 abbrev pub bounds_in : CheckBounds → Bounds
 bounds_in b = record { nodes = b.nodes; visits = b.visits; require_schedulable = b.require_schedulable; quiet = b.quiet }

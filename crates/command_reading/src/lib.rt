@@ -4,5 +4,4 @@
 pub mod bounds;
 pub mod misuse;
 pub mod reading;
-pub mod source;
 pub mod verb;

@@ -2,7 +2,7 @@
 use command_options::options::Key;
 
 // The first word that cannot be understood, or what is missing at the end.
-#[derive(Clone, Copy, Debug)]
+#[derive(Clone, Copy, Debug, PartialEq, Eq)]
 pub enum Misuse<'a> {
     UnknownCommand(&'a str),
     UnknownOption(&'a str),

@@ -2,9 +2,9 @@
 mod values;
 
 use crate::bounds::CheckBounds;
-use crate::source::Source;
 use command_options::options::Key;
 use command_options::settings::Settings;
+use table_source::Source;
 
 // What was read so far.
 #[derive(Drop)]

@@ -5,7 +5,7 @@ ghost use Rattle.command_reading.specs.Verbs.{verb_word, has_settings, is_run, i
 use command_options::named::Named;
 use command_options::options::{Flag, Key};
 
-#[derive(Clone, Copy)]
+#[derive(Clone, Copy, Debug, PartialEq, Eq)]
 pub enum Verb {
     Help,
     Table,
@@ -33,28 +33,19 @@ impl Verb {
     fn has_settings(self) -> bool
         ensures { result ≡ has_settings self }
     {
-        match self {
-            Verb::Run | Verb::Check => true,
-            Verb::Help | Verb::Table => false,
-        }
+        self.is_run() || self.is_check()
     }
 
     fn is_run(self) -> bool
         ensures { result ≡ is_run self }
     {
-        match self {
-            Verb::Run => true,
-            Verb::Help | Verb::Table | Verb::Check => false,
-        }
+        self == Verb::Run
     }
 
     fn is_check(self) -> bool
         ensures { result ≡ is_check self }
     {
-        match self {
-            Verb::Check => true,
-            Verb::Help | Verb::Table | Verb::Run => false,
-        }
+        self == Verb::Check
     }
 
     // Whether the command has this option.

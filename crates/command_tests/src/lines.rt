@@ -1,4 +1,7 @@
 // What command lines ask for.
+use command_reading::bounds::CheckBounds;
+use command_reading::misuse::Misuse;
+use command_words::command::Command;
 use command_words::words::read_words;
 use std::alloc::Global;
 use std::test::Fail;
@@ -77,12 +80,35 @@ check --nodes 1,2 => Err(BadValue { option: Nodes, word: \"1,2\" })
 check --visits => Err(NoValue(Visits))
 ";
 
+// The answer as it is written above, a check with its bounds one by one.
+fn told(heap: Global, answer: &Result<Command<'_>, Misuse<'_>>) -> Result<String, Fail> {
+    let Ok(
+        Command::Check {
+            source,
+            settings,
+            bounds,
+        },
+    ) = answer
+    else {
+        return Ok(format!(in heap; "{answer:?}")?);
+    };
+    let CheckBounds {
+        nodes,
+        visits,
+        require_schedulable,
+        quiet,
+    } = bounds;
+    Ok(format!(in heap;
+        "Ok(Check {{ source: {source:?}, settings: {settings:?}, nodes: {nodes}, visits: {visits}, require_schedulable: {require_schedulable}, quiet: {quiet} }})"
+    )?)
+}
+
 fn asked(heap: Global, line: &str) -> Result<String, Fail> {
     let mut words = Vec::new(heap);
     for word in line.split_whitespace() {
         words.push(if word == "''" { "" } else { word })?;
     }
-    Ok(format!(in heap; "{:?}", read_words(heap, &words))?)
+    told(heap, &read_words(heap, &words))
 }
 
 #[test]

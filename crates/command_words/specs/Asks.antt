@@ -10,7 +10,8 @@ use Rattle.command_options.specs.Choices.{Chosen, loose_ranks, chosen_in}
 use Rattle.command_reading.specs.Misuses.{Wrong, unknown_command, one_too_many, no_value, no_events, ranks_need_fixed, then}
 use Rattle.command_options.specs.Named.{Word, first_named}
 use Rattle.command_reading.specs.Verbs.{verb_word, verbs}
-use Rattle.command_reading.specs.Readings.{From, input, Bounds, Read, nothing_read, with_words, from_source}
+use Rattle.command_reading.specs.Readings.{Bounds, Read, nothing_read, with_words, bounds_in}
+use Rattle.table_source.specs.Sources.{From, input, from_source}
 
 pub data Asked : Type 0 where
   help : Asked
@@ -62,4 +63,4 @@ abbrev pub command_heard : Command → Asked
 command_heard Help = help
 command_heard (Table s) = table (from_source s)
 command_heard (Run s t es) = run (from_source s) (chosen_in t) (vec_items es)
-command_heard (Check s t n v q p) = check (from_source s) (chosen_in t) (record { nodes = n; visits = v; require_schedulable = q; quiet = p })
+command_heard (Check s t b) = check (from_source s) (chosen_in t) (bounds_in b)

@@ -1,6 +1,7 @@
 // Commands.
 use command_options::settings::Settings;
-use command_reading::source::Source;
+use command_reading::bounds::CheckBounds;
+use table_source::Source;
 
 #[derive(Debug, Drop)]
 pub enum Command<'a> {
@@ -14,12 +15,6 @@ pub enum Command<'a> {
     Check {
         source: Source<'a>,
         settings: Settings,
-        // how much memory exploring is lent
-        nodes: usize,
-        visits: usize,
-        // whether any other answer is a failure
-        require_schedulable: bool,
-        // whether progress is kept back
-        quiet: bool,
+        bounds: CheckBounds,
     },
 }

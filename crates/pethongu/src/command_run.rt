@@ -4,13 +4,13 @@ use crate::system_words::SystemWords;
 use crate::trouble::Trouble;
 use command_options::named::Named;
 use command_options::settings::Settings;
-use command_reading::source::Source;
 use job_state::State;
 use policies::Choice;
 use policy_choice::choose_policy;
 use run_listing::Listing;
 use run_timeline::Timeline;
 use run_words::StateWords;
+use table_source::Source;
 use task_runs::{TaskStep, list_ticks, record_run};
 use task_table::table::TaskTable;
 

@@ -1,10 +1,10 @@
 // 'pethongu table': the table in a file and its load in both modes.
 use crate::source::{name_of, read_source};
 use crate::trouble::Trouble;
-use command_reading::source::Source;
 use table_print::faults::Told;
 use table_print::loads::Loads;
 use table_print::rows::Rows;
+use table_source::Source;
 use table_text::fault::Fault;
 use table_text::reading::ReadError;
 use table_text::table::{LONGEST, read_table};

@@ -11,7 +11,6 @@ mod trouble;
 mod usage;
 
 use command_check::check_table;
-use command_reading::bounds::CheckBounds;
 use command_run::run_events;
 use command_table::print_table;
 use command_words::command::Command;
@@ -37,20 +36,9 @@ fn perform(rt: &HostRuntime, words: &[&str]) -> Result<(), Trouble> {
             Command::Check {
                 source,
                 settings,
-                nodes,
-                visits,
-                require_schedulable,
-                quiet,
+                bounds,
             },
-        ) => {
-            let bounds = CheckBounds {
-                nodes,
-                visits,
-                require_schedulable,
-                quiet,
-            };
-            check_table(rt, source, &settings, &bounds)
-        }
+        ) => check_table(rt, source, &settings, &bounds),
         Err(misuse) => tell_misuse(rt, misuse),
     }
 }

@@ -1,9 +1,9 @@
 // The bytes of a table file.
 use crate::trouble::Trouble;
-use command_reading::source::Source;
 use std::fs::File;
 use std::io;
 use std::io::Read;
+use table_source::Source;
 use table_text::table::LONGEST;
 
 // One byte more than the longest table is read, so that a longer one is seen to be so.

@@ -3,39 +3,35 @@ ghost use Rattle.std.specs.Prelude.{◌≡◌, List, map, vec_items};
 ghost use Rattle.std.specs.Option.{ok_or};
 ghost use Rattle.command_reading.specs.Misuses.{Says, bad_value};
 ghost use Rattle.command_options.specs.Named.{first_named};
-ghost use Rattle.command_reading.specs.Readings.{read_so_far, nothing_read, list_given, number_given, with_flag, with_value, with_option, with_file, with_word, with_words, is_option, source, from_source};
+ghost use Rattle.command_reading.specs.Readings.{read_so_far, nothing_read, list_given, number_given, with_flag, with_value, with_option, with_file, with_word, with_words};
 
 use crate::bounds::CheckBounds;
 use crate::misuse::Misuse;
 use crate::reading::Reading;
-use crate::source::Source;
 use crate::verb::Verb;
 use command_options::named::{Named, find_named};
 use command_options::options::{FLAGS, Flag, KEYS, Key};
 use command_options::settings::{KINDS, ORDERS, Settings};
 use number_list::list::{ListError, read_list};
 use std::alloc::Global;
+use table_source::{Source, is_option};
 use table_text::figures::value_within;
 
 // The one of them that the option's value names.
 fn value_named<'a, N: Named + Copy>(key: Key, all: &[N], word: &'a str) -> Result<N, Misuse<'a>>
     ensures { Says (λ x. x) (ok_or (first_named N.Named.spelled all.now word.now) (bad_value key word.now)) result }
 {
-    match find_named(all, word) {
-        Some(value) => Ok(value),
-        None => Err(Misuse::BadValue { option: key, word }),
-    }
+    find_named(all, word).ok_or(Misuse::BadValue { option: key, word })
 }
 
 // The list that the option's value writes.
 fn list_given<'a>(heap: Global, key: Key, word: &'a str) -> Result<Vec<u8>, Misuse<'a>>
     ensures { Says vec_items (list_given key word.now) result }
 {
-    match read_list(heap, word.as_bytes()) {
-        Ok(numbers) => Ok(numbers),
-        Err(ListError::NoList) => Err(Misuse::BadValue { option: key, word }),
-        Err(ListError::NoMemory) => Err(Misuse::NoMemory),
-    }
+    read_list(heap, word.as_bytes()).map_err(|e| match e {
+        ListError::NoList => Misuse::BadValue { option: key, word },
+        ListError::NoMemory => Misuse::NoMemory,
+    })
 }
 
 // The largest number that an option's value may be.
@@ -45,30 +41,8 @@ const MOST: u32 = 1_000_000;
 fn number_given<'a>(key: Key, word: &'a str) -> Result<usize, Misuse<'a>>
     ensures { Says (λ n. n) (number_given key word.now) result }
 {
-    match value_within(word.as_bytes(), MOST) {
-        Some(value) => Ok(value as usize),
-        None => Err(Misuse::BadValue { option: key, word }),
-    }
-}
-
-// Whether the word is an option: the sign '-' alone is none.
-fn is_option(word: &str) -> bool
-    ensures { result ≡ is_option word.now }
-{
-    match word.as_bytes() {
-        [first, _, ..] => *first == b'-',
-        _ => false,
-    }
-}
-
-// The source that the word names: the sign '-' is standard input.
-fn source_named<'a>(word: &'a str) -> Source<'a>
-    ensures { from_source result ≡ source word.now }
-{
-    match word {
-        "-" => Source::Input,
-        _ => Source::File(word),
-    }
+    let value = value_within(word.as_bytes(), MOST).ok_or(Misuse::BadValue { option: key, word })?;
+    Ok(value as usize)
 }
 
 impl<'a> Reading<'a> {
@@ -136,15 +110,14 @@ impl<'a> Reading<'a> {
         if self.source.is_some() {
             return Err(Misuse::OneTooMany(word));
         }
-        self.source = Some(source_named(word));
+        self.source = Some(Source::named(word));
         Ok(())
     }
 
     fn take_word(&mut self, heap: Global, verb: Verb, word: &'a str) -> Result<(), Misuse<'a>>
         ensures { Says (λ _. read_so_far self.new) (with_word verb (read_so_far self.old) self.old.waiting word.now) result }
     {
-        if let Some(key) = self.waiting {
-            self.waiting = None;
+        if let Some(key) = self.waiting.take() {
             return self.take_value(heap, key, word);
         }
         if is_option(word) {
