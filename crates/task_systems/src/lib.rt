@@ -2,11 +2,7 @@
 #![tactic(auto)]
 
 mod answers;
-mod events;
-mod forces;
-mod lateness;
 pub mod releases;
-mod simulation;
 pub mod system;
 
 pub use releases::{PeriodicReleases, Releases, SporadicReleases};

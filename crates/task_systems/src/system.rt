@@ -1,4 +1,8 @@
 // A table of tasks under a policy, as a transition system.
+mod events;
+mod forces;
+mod simulation;
+
 ghost use Rattle.std.specs.Prelude.{◌≡◌, true};
 ghost use Rattle.task_table.specs.Tables.{tasks_of};
 ghost use Rattle.jobs.specs.declared.kind.Kind.TheVariants.{Periodic as periodic_kind};
@@ -6,16 +10,14 @@ ghost use Rattle.task_laws.specs.Systems.{meaning as means, simulates};
 ghost use Rattle.task_laws.proofs.Lawfuls.{laws};
 ghost use Rattle.task_systems.specs.Tables.{table_of};
 
-use crate::events::{EVENTS as EVENT_COUNT, next as next_state};
-use crate::forces::forced_event as force;
-use crate::lateness::{is_doomed_in, is_late_in};
 use crate::releases::{PeriodicReleases, Releases, SporadicReleases};
-use crate::simulation::does_simulate;
 use job_state::State;
 use jobs::JobRefusal;
 use policies::Policy;
 use task_table::table::TaskTable;
 use transition::{Refusal, System};
+
+const EVENT_COUNT: u8 = 10;
 
 #[derive(Clone, Copy)]
 pub struct TaskSystem<R, P> {
@@ -78,27 +80,27 @@ impl<R: Releases, P: Policy> System for TaskSystem<R, P> {
     }
 
     fn next(&self, state: &State, event: u8) -> Result<State, Refusal<JobRefusal>> {
-        let kind = self.releases.kind();
-        next_state(kind, &self.policy, self.table.tasks(), state, event)
+        self.give(state, event)
     }
 
+    #[tactic(auto, unfolding(task_laws::specs::Systems::doomed_in))]
     fn is_doomed(&self, state: &State) -> bool {
-        is_doomed_in(self.releases.kind(), self.table.tasks(), state)
+        self.fits(state) && state.is_doomed(self.table.tasks())
     }
 
+    #[tactic(auto, unfolding(task_laws::specs::Systems::late_in))]
     fn is_late(&self, state: &State) -> bool {
-        is_late_in(self.releases.kind(), self.table.tasks(), state)
+        self.fits(state) && state.is_late(self.table.tasks())
     }
 
     fn simulates(&self, a: &State, b: &State) -> bool
         ensures answers { result ≡ simulates (R.Releases.comes self.now.releases) (tasks_of self.now.table) a.now b.now }
         ensures periodic_itself { R.Releases.comes self.now.releases ≡ periodic_kind → result ≡ true → a.now ≡ b.now }
     {
-        does_simulate(self.releases.kind(), self.table.tasks(), a, b)
+        self.does_simulate(a, b)
     }
 
     fn forced_event(&self, state: &State) -> Result<u8, Refusal<JobRefusal>> {
-        let kind = self.releases.kind();
-        force(kind, &self.policy, self.table.tasks(), state)
+        self.force(state)
     }
 }

@@ -1,6 +1,6 @@
 use Rattle.std.proofs.Common.{◌≡◌, length}
 use Rattle.task_laws.specs.Systems.{simulates_jobs}
-use Rattle.task_systems.proofs.simulation.do_jobs_simulate.Given as goal
+use Rattle.task_systems.proofs.system.simulation.do_jobs_simulate.Given as goal
 
 abbrev pub invariant-loop-x : goal.invariant-loop-x
 invariant-loop-x l =

@@ -1,20 +1,27 @@
 // Whether one state simulates another.
 ghost use Rattle.std.specs.Prelude.{◌≡◌, length};
+ghost use Rattle.task_table.specs.Tables.{tasks_of};
 ghost use Rattle.task_laws.specs.Systems.{closer, simulates_job, simulates_jobs, simulates};
 
+use crate::releases::Releases;
+use crate::system::TaskSystem;
 use job_state::State;
 use jobs::{Job, Kind};
-use task_table::task::Task;
+use policies::Policy;
 
-#[tactic(auto, unfolding(task_laws::specs::Systems::simulates))]
-pub(crate) fn does_simulate(kind: Kind, tasks: &[Task], a: &State, b: &State) -> bool
-    ensures { result ≡ simulates kind tasks.now a.now b.now }
-{
-    // Most states differ in mode or jobs, and to see that takes less time than to see that both fit.
-    a.mode == b.mode
-        && do_jobs_simulate(kind, &a.jobs, &b.jobs)
-        && a.fits(kind, tasks)
-        && b.fits(kind, tasks)
+impl<R: Releases, P: Policy> TaskSystem<R, P> {
+    #[tactic(auto, unfolding(task_laws::specs::Systems::simulates))]
+    pub(super) fn does_simulate(&self, a: &State, b: &State) -> bool
+        ensures { result ≡ simulates (R.Releases.comes self.now.releases) (tasks_of self.now.table) a.now b.now }
+    {
+        let kind = self.releases.kind();
+        let tasks = self.table.tasks();
+        // Most states differ in mode or jobs, and to see that takes less time than to see that both fit.
+        a.mode == b.mode
+            && do_jobs_simulate(kind, &a.jobs, &b.jobs)
+            && a.fits(kind, tasks)
+            && b.fits(kind, tasks)
+    }
 }
 
 fn do_jobs_simulate(kind: Kind, xs: &[Job], ys: &[Job]) -> bool
