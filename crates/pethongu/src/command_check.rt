@@ -1,63 +1,55 @@
 // 'pethongu check': whether a run of the table is ever late, and why.
-use crate::command_run::{draw_run, policy_for};
-use crate::command_table::{print_rows, sealed_table};
-use crate::system_words::SystemWords;
+use crate::system::System;
 use crate::trouble::Trouble;
 use command_options::settings::Settings;
 use command_reading::bounds::CheckBounds;
 use explorer::{Node, Visit};
-use job_state::State;
-use policies::Choice;
 use std::alloc::{AllocError, Global};
+use std::io;
+use std::process::ExitCode;
 use table_source::Source;
-use task_runs::record_run;
-use task_table::table::TaskTable;
 use task_verdict::{LateRun, TaskJudgement, TaskVerdict, judge_tasks, late_tasks};
 use verdict_print::{AnswerLine, Grounds, NumberLine};
 
 // Judges the table, and prints the verdict with its grounds.
-pub(crate) fn check_table(
+pub(crate) fn check_table<'a>(
     rt: &HostRuntime,
-    source: Source<'_>,
+    source: Source<'a>,
     settings: &Settings,
     bounds: &CheckBounds,
-) -> Result<(), Trouble> {
-    let table = sealed_table(rt, source)?;
-    let policy = policy_for(rt, settings, &table)?;
+) -> Result<ExitCode, Trouble<'a>> {
+    let system = System::read(rt, source, settings)?;
     if !settings.porcelain && !bounds.quiet {
         tell_start(rt, bounds)?;
     }
-    let judgement = judged(rt.alloc(), settings, bounds, &table, policy)?;
+    let judgement = judged(rt.alloc(), &system, bounds)?;
     if settings.porcelain {
-        print_answer(rt, &table, &judgement)?;
+        print_answer(rt, &system, &judgement)?;
     } else {
-        print_rows(rt, &table)?;
-        println!(rt; "{}\n", SystemWords(settings))?;
-        tell_judgement(rt, settings, bounds, &table, &policy, &judgement)?;
+        system.print_head(rt)?;
+        tell_judgement(rt, &system, bounds, &judgement)?;
     }
     match judgement.verdict {
-        TaskVerdict::Schedulable => Ok(()),
-        _ if bounds.require_schedulable => Err(Trouble::Told),
-        _ => Ok(()),
+        TaskVerdict::Schedulable => Ok(ExitCode::SUCCESS),
+        _ if bounds.require_schedulable => Ok(ExitCode::FAILURE),
+        _ => Ok(ExitCode::SUCCESS),
     }
 }
 
 // Whoever waits is told for what.
-fn tell_start(rt: &HostRuntime, bounds: &CheckBounds) -> Result<(), Trouble> {
+fn tell_start(rt: &HostRuntime, bounds: &CheckBounds) -> io::Result<()> {
     let nodes = bounds.nodes;
     let visits = bounds.visits;
-    Ok(eprintln!(rt; "exploring, with {nodes} nodes and {visits} visits at most")?)
+    eprintln!(rt; "exploring, with {nodes} nodes and {visits} visits at most")
 }
 
 fn judged(
     heap: Global,
-    settings: &Settings,
+    system: &System<'_>,
     bounds: &CheckBounds,
-    table: &TaskTable,
-    policy: Choice,
 ) -> Result<TaskJudgement, AllocError> {
     let node = Node {
-        state: State::first(settings.kind, table.tasks()),
+        state: system.first(),
         visit: 0,
         opened: false,
     };
@@ -67,18 +59,26 @@ fn judged(
     };
     let mut nodes = vec![in heap; node; bounds.nodes]?;
     let mut visits = vec![in heap; visit; bounds.visits]?;
-    judge_tasks(heap, settings.kind, table, policy, &mut nodes, &mut visits)
+    let kind = system.settings.kind;
+    judge_tasks(
+        heap,
+        kind,
+        &system.table,
+        system.policy,
+        &mut nodes,
+        &mut visits,
+    )
 }
 
 // The lines for scripts.
 fn print_answer(
     rt: &HostRuntime,
-    table: &TaskTable,
+    system: &System<'_>,
     judgement: &TaskJudgement,
-) -> Result<(), Trouble> {
+) -> Result<(), Trouble<'static>> {
     println!(rt; "{}", AnswerLine(judgement))?;
     if let TaskVerdict::Unschedulable(late) = &judgement.verdict {
-        let numbers = late_tasks(rt.alloc(), table, &late.state)?;
+        let numbers = late_tasks(rt.alloc(), &system.table, &late.state)?;
         println!(rt;
             "{}",
             NumberLine {
@@ -107,12 +107,10 @@ fn print_answer(
 // The verdict with its grounds, and the failing run where there is one.
 fn tell_judgement(
     rt: &HostRuntime,
-    settings: &Settings,
+    system: &System<'_>,
     bounds: &CheckBounds,
-    table: &TaskTable,
-    policy: &Choice,
     judgement: &TaskJudgement,
-) -> Result<(), Trouble> {
+) -> Result<(), Trouble<'static>> {
     let grounds = Grounds {
         judgement,
         lent_nodes: bounds.nodes,
@@ -120,7 +118,7 @@ fn tell_judgement(
     };
     print!(rt; "{grounds}")?;
     if let TaskVerdict::Unschedulable(late) = &judgement.verdict {
-        tell_late_run(rt, settings, table, policy, late)?;
+        tell_late_run(rt, system, late)?;
     }
     Ok(())
 }
@@ -128,15 +126,12 @@ fn tell_judgement(
 // The failing run, its forced events told apart.
 fn tell_late_run(
     rt: &HostRuntime,
-    settings: &Settings,
-    table: &TaskTable,
-    policy: &Choice,
+    system: &System<'_>,
     late: &LateRun,
-) -> Result<(), Trouble> {
+) -> Result<(), Trouble<'static>> {
     let mut events = late.events.clone()?;
     events.extend_from_slice(&late.forced)?;
-    let first = State::first(settings.kind, table.tasks());
-    let steps = record_run(rt.alloc(), settings.kind, table, policy, &events)?;
+    let steps = system.record(rt.alloc(), &events)?;
     println!(rt; "")?;
-    draw_run(rt, table, policy, first, &steps, late.events.len())
+    system.draw_run(rt, &steps, late.events.len())
 }

@@ -1,9 +1,8 @@
-// Messages on a command line that cannot be understood.
-use crate::trouble::Trouble;
+// What is told of a command line that cannot be understood.
 use command_options::named::Named;
 use command_options::options::Key;
 use command_reading::misuse::Misuse;
-use std::io;
+use std::fmt;
 
 // What an option's value has to be.
 fn wanted(option: Key) -> &'static str {
@@ -17,32 +16,36 @@ fn wanted(option: Key) -> &'static str {
     }
 }
 
-fn tell_no_value(rt: &HostRuntime, option: Key) -> io::Result<()> {
-    let name = option.word();
-    let wanted = wanted(option);
-    eprintln!(rt; "pethongu: {name} has no value, expected {wanted}")
-}
+#[derive(Clone, Copy, Debug)]
+pub(crate) struct MisuseWords<'a>(pub(crate) Misuse<'a>);
 
-fn tell_bad_value(rt: &HostRuntime, option: Key, word: &str) -> io::Result<()> {
-    let name = option.word();
-    let wanted = wanted(option);
-    eprintln!(rt; "pethongu: {name}: found '{word}', expected {wanted}")
-}
-
-pub(crate) fn tell_misuse(rt: &HostRuntime, misuse: Misuse<'_>) -> Result<(), Trouble> {
-    match misuse {
-        Misuse::UnknownCommand(word) => eprintln!(rt; "pethongu: there is no command '{word}'")?,
-        Misuse::UnknownOption(word) => eprintln!(rt; "pethongu: there is no option '{word}'")?,
-        Misuse::NotHere(word) => eprintln!(rt; "pethongu: this command has no option '{word}'")?,
-        Misuse::OneTooMany(word) => eprintln!(rt; "pethongu: '{word}' is a word too many")?,
-        Misuse::NoValue(option) => tell_no_value(rt, option)?,
-        Misuse::BadValue { option, word } => tell_bad_value(rt, option, word)?,
-        Misuse::NoEvents => eprintln!(rt; "pethongu: 'run' wants --events and their list")?,
-        Misuse::RanksNeedFixed => {
-            eprintln!(rt; "pethongu: --ranks can only stand with --policy fixed")?;
+impl fmt::Display for MisuseWords<'_> {
+    fn fmt<W: fmt::Write>(&self, f: &mut fmt::Formatter<W>) -> fmt::Result {
+        match self.0 {
+            Misuse::UnknownCommand(word) => write!(f, "there is no command '{word}'")?,
+            Misuse::UnknownOption(word) => write!(f, "there is no option '{word}'")?,
+            Misuse::NotHere(word) => write!(f, "this command has no option '{word}'")?,
+            Misuse::OneTooMany(word) => write!(f, "'{word}' is a word too many")?,
+            Misuse::NoValue(option) => {
+                write!(
+                    f,
+                    "{} has no value, expected {}",
+                    option.word(),
+                    wanted(option)
+                )?;
+            }
+            Misuse::BadValue { option, word } => {
+                write!(
+                    f,
+                    "{}: found '{word}', expected {}",
+                    option.word(),
+                    wanted(option)
+                )?;
+            }
+            Misuse::NoEvents => write!(f, "'run' wants --events and their list")?,
+            Misuse::RanksNeedFixed => write!(f, "--ranks can only stand with --policy fixed")?,
+            Misuse::NoMemory => write!(f, "there is no memory left")?,
         }
-        Misuse::NoMemory => return Err(Trouble::NoMemory),
+        write!(f, "\n'pethongu help' tells what can be asked for")
     }
-    eprintln!(rt; "'pethongu help' tells what can be asked for")?;
-    Err(Trouble::Told)
 }

@@ -1,6 +1,6 @@
 // The kind and the policy in words.
+use command_options::named::Named;
 use command_options::settings::{OrderName, Settings};
-use jobs::Kind;
 use std::fmt;
 
 #[derive(Drop)]
@@ -8,10 +8,7 @@ pub(crate) struct SystemWords<'a>(pub(crate) &'a Settings);
 
 impl fmt::Display for SystemWords<'_> {
     fn fmt<W: fmt::Write>(&self, f: &mut fmt::Formatter<W>) -> fmt::Result {
-        let kind = match self.0.kind {
-            Kind::Sporadic => "sporadic",
-            Kind::Periodic => "periodic",
-        };
+        let kind = self.0.kind.word();
         let order = match self.0.order {
             OrderName::Fixed => "fixed order",
             OrderName::Deadline => "earliest deadline first",

@@ -1,29 +1,37 @@
-// Why the program ends with status 1.
-use std::alloc::{AllocError, AllocFailed};
+// Why a command ends with status 1 and a message.
+use crate::faulty_file::FaultyFile;
+use crate::misuse::MisuseWords;
+use command_options::named::Named;
+use command_reading::misuse::Misuse;
+use policy_choice::WrongCount;
+use std::alloc::AllocError;
 use std::io;
+use table_text::table::LONGEST;
+use thiserror::Error;
 
-#[derive(Drop)]
-pub enum Trouble {
-    // what was wrong has been told already
-    Told,
-    Outside(io::Error),
-    NoMemory,
+#[derive(Debug, Drop, Error)]
+pub(crate) enum Trouble<'a> {
+    #[error("{0}")]
+    Misused(MisuseWords<'a>),
+    #[error("cannot read {name}: {error}")]
+    NotRead { name: &'a str, error: io::Error },
+    #[error("{name}: longer than {LONGEST} bytes")]
+    TooLong { name: &'a str },
+    #[error("{0}")]
+    Faulty(FaultyFile<'a>),
+    #[error("{} has {} numbers, and the table has {} tasks", .0.option.word(), .0.given, .0.tasks)]
+    WrongCount(WrongCount),
+    #[error("{0}")]
+    Outside(#[from] io::Error),
+    #[error("there is no memory left")]
+    NoMemory(#[from(alloc)] AllocError),
 }
 
-impl From<io::Error> for Trouble {
-    fn from(e: io::Error) -> Trouble {
-        Trouble::Outside(e)
-    }
-}
-
-impl From<AllocError> for Trouble {
-    fn from(_e: AllocError) -> Trouble {
-        Trouble::NoMemory
-    }
-}
-
-impl<T: Drop> From<AllocFailed<T>> for Trouble {
-    fn from(_e: AllocFailed<T>) -> Trouble {
-        Trouble::NoMemory
+impl<'a> From<Misuse<'a>> for Trouble<'a> {
+    fn from(misuse: Misuse<'a>) -> Trouble<'a> {
+        match misuse {
+            Misuse::NoMemory => Trouble::NoMemory(AllocError),
+            _ => Trouble::Misused(MisuseWords(misuse)),
+        }
     }
 }
