@@ -1,9 +1,11 @@
 // A run in lines.
-use crate::words::{reason, width};
+use crate::words::reason;
+use arrayvec::ArrayString;
 use job_state::State;
 use numbered_refusals::Numbered;
 use run_words::JobWord;
 use std::fmt;
+use std::fmt::Write;
 use task_runs::{TaskStep, Tick, is_tick};
 use task_table::mode::Mode;
 use task_table::task::Task;
@@ -49,17 +51,14 @@ impl Listing<'_> {
         if !is_tick(step) {
             return None;
         }
-        match self.ticks.get(clock) {
-            Some(tick) => tick.ran,
-            None => None,
-        }
+        self.ticks.get(clock).and_then(|tick| tick.ran)
     }
 }
 
 fn write_head<W: fmt::Write>(f: &mut fmt::Formatter<W>, tasks: usize) -> fmt::Result {
     write!(f, "time  mode  ")?;
-    for i in 0..tasks.min(8) {
-        write!(f, "task {}    ", i + 1)?;
+    for number in 1..=tasks.min(8) {
+        write!(f, "task {number}    ")?;
     }
     writeln!(f, "event")
 }
@@ -76,12 +75,10 @@ fn write_state<W: fmt::Write>(
         Mode::High => "high",
     };
     write!(f, "{clock:>4}  {mode}  ")?;
-    for i in 0..tasks.min(8) {
-        let job = state.jobs[i];
-        write!(f, "{}", JobWord(job))?;
-        for _ in width(job)..10 {
-            write!(f, " ")?;
-        }
+    for job in state.jobs.iter().take(tasks) {
+        let mut word = ArrayString::<8>::new();
+        write!(word, "{}", JobWord(*job))?;
+        write!(f, "{word:<10}")?;
     }
     Ok(())
 }
@@ -135,14 +132,11 @@ fn write_notes<W: fmt::Write>(
     if let (Mode::Low, Mode::High) = (before.mode, after.mode) {
         write!(f, "; the mode is high now")?;
     }
-    for i in 0..tasks.len().min(8) {
-        let number = i + 1;
-        let task = &tasks[i];
-        let was_late = before.jobs[i].is_late(task);
-        let was_doomed = before.jobs[i].is_doomed(before.mode, task);
-        if after.jobs[i].is_late(task) && !was_late {
+    let jobs = before.jobs.iter().zip(&after.jobs);
+    for (number, (task, (was, is))) in (1..=8).zip(tasks.iter().zip(jobs)) {
+        if is.is_late(task) && !was.is_late(task) {
             write!(f, "; task {number} is late")?;
-        } else if after.jobs[i].is_doomed(after.mode, task) && !was_doomed {
+        } else if is.is_doomed(after.mode, task) && !was.is_doomed(before.mode, task) {
             write!(
                 f,
                 "; from here task {number} cannot be kept from being late"

@@ -1,28 +1,6 @@
-// Reasons for refusals, and how wide the words of jobs are.
-ghost use Rattle.std.specs.Prelude.{◌≤◌};
-
-use jobs::{Job, JobRefusal};
+// Reasons for refusals.
+use jobs::JobRefusal;
 use transition::Refusal;
-
-// How many signs the word of a job has.
-pub(crate) fn width(job: Job) -> usize {
-    match job {
-        Job::Absent => 0,
-        Job::Idle { wait } => 1 + digits(wait),
-        Job::Ready { wait, left } => 2 + digits(wait) + digits(left),
-        Job::Dropped => 1,
-    }
-}
-
-fn digits(n: u8) -> usize
-    ensures { result ≤ 3 }
-{
-    match n {
-        0..=9 => 1,
-        10..=99 => 2,
-        _ => 3,
-    }
-}
 
 // Why an event was refused.
 pub(crate) fn reason(refusal: &Refusal<JobRefusal>) -> &'static str {
