@@ -17,10 +17,8 @@ pub struct Timeline<'a> {
 
 impl fmt::Display for Timeline<'_> {
     fn fmt<W: fmt::Write>(&self, f: &mut fmt::Formatter<W>) -> fmt::Result {
-        let mut from = 0usize;
-        for columns in self.ticks.chunks(ACROSS) {
-            draw(f, self.tasks, columns, from)?;
-            from = from.saturating_add(columns.len());
+        for (i, columns) in self.ticks.chunks(ACROSS).enumerate() {
+            draw(f, self.tasks, columns, i.saturating_mul(ACROSS))?;
         }
         writeln!(
             f,
@@ -64,11 +62,12 @@ fn draw_task<W: fmt::Write>(
     let number = i.saturating_add(1);
     write!(f, "  task {number}  ")?;
     for tick in columns {
-        let sign = if i < 8 {
-            mark(task, tick.before.jobs[i], tick.ran == Some(number))
-        } else {
-            ' '
-        };
+        let runs = tick.ran == Some(number);
+        let sign = tick
+            .before
+            .jobs
+            .get(i)
+            .map_or(' ', |job| mark(task, *job, runs));
         write!(f, "{sign}")?;
     }
     writeln!(f, "")
