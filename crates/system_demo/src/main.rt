@@ -17,6 +17,7 @@ use task_table::table::TaskTable;
 use task_table::task::{Criticality, Task};
 use transition::Run;
 
+// A demo is one file that is read whole, so this one writes its tasks and their table out as sealing_demo does.
 const RUDDER: Task = Task {
     criticality: Criticality::High,
     period: 3,
@@ -52,10 +53,7 @@ fn pair() -> Result<TaskTable, DraftRefusal>
 fn pair_system() -> Result<Sporadic<EarliestDeadline>, DraftRefusal>
     ensures { MatchResult result (λ s. length (tasks_of s.table) ≡ 2) (λ _. ⊥) }
 {
-    let mut draft = Draft::new();
-    draft.add(RUDDER)?;
-    draft.add(PLOTTER)?;
-    Ok(Sporadic::new(draft.seal(), FIRST))
+    Ok(Sporadic::new(pair()?, FIRST))
 }
 
 fn tell_first_tick(rt: &HostRuntime) -> io::Result<()> {
