@@ -43,6 +43,7 @@ fn selected_order(settings: &Settings, tasks: usize) -> Result<Order, WrongCount
 fn selected_deadlines(settings: &Settings, tasks: usize) -> Result<Option<Deadlines>, WrongCount>
     ensures { Says (option_map (λ d. d.figures)) (selected_deadlines (chosen_in settings.now) tasks) result }
 {
+    // A match: by `map` and `transpose` this takes two closures beside the `?`, and is no plainer.
     match &settings.shorten {
         Some(numbers) => {
             let figures = one_each(Key::Shorten, numbers, tasks)?;

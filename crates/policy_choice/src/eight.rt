@@ -14,7 +14,7 @@ fn padded(numbers: &[u8]) -> [u8; 8]
     ensures { result ≡ padded numbers.now }
 {
     let mut eight = [0; 8];
-    eight[0..numbers.len()].copy_from_slice(numbers);
+    eight[..numbers.len()].copy_from_slice(numbers);
     eight
 }
 
