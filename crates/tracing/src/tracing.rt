@@ -18,9 +18,7 @@ pub fn trace(visits: &[Visit], number: usize, list: &mut [u8]) -> Result<usize, 
     if number == 0 || number > visits.len() {
         return Err(TraceRefusal::NoSuchVisit);
     }
-    let Some(count) = event_count(visits, number) else {
-        return Err(TraceRefusal::BrokenChain);
-    };
+    let count = event_count(visits, number).ok_or(TraceRefusal::BrokenChain)?;
     if count > list.len() {
         return Err(TraceRefusal::ListTooShort);
     }
@@ -32,11 +30,12 @@ pub fn trace(visits: &[Visit], number: usize, list: &mut [u8]) -> Result<usize, 
 fn is_sound(number: usize, visit: Visit) -> bool
     ensures { result ≡ sound number visit }
 {
-    if visit.parent == 0 {
-        visit.parent < number && visit.event == 0
+    let is_right = if visit.parent == 0 {
+        visit.event == 0
     } else {
-        visit.parent < number && 1 <= visit.event && visit.event <= 10
-    }
+        (1..=10).contains(&visit.event)
+    };
+    visit.parent < number && is_right
 }
 
 // How many events the chain that ends with the visit has, or none where the chain is broken.
@@ -46,6 +45,7 @@ fn event_count(visits: &[Visit], number: usize) -> Option<usize>
 {
     let mut count = 0;
     let mut at = number;
+    // An iterator over the parents would owe its own laws, which are longer than this loop.
     loop {
         let visit = visits[at - 1];
         if !is_sound(at, visit) {
@@ -66,11 +66,10 @@ fn write_events(visits: &[Visit], number: usize, count: usize, list: &mut [u8])
     ensures { (es : List ℕ) → chained visits.now number ≡ Some es → list.new ≡ over_front (Ok es) list.old }
 {
     let mut at = number;
-    let mut left = count;
-    while left > 0 {
+    // By index: of what an adapter of `iter_mut` has written, no contract speaks.
+    for i in (0..count).rev() {
         let visit = visits[at - 1];
-        left -= 1;
-        list[left] = visit.event;
+        list[i] = visit.event;
         at = visit.parent;
     }
 }
