@@ -4,11 +4,11 @@ ghost use Rattle.exploration.specs.Claims.{Closed, EveryVisitTells, Antichain};
 ghost use Rattle.exploration.specs.Stores.{states};
 ghost use Rattle.explorer.specs.Held.{left_by};
 ghost use Rattle.canal_lock.specs.Locks.{meaning};
-ghost use Rattle.lock_check.specs.Findings.{NeverOverdue, EverOverdue, ShownOverdue, MoreUnlikeThan, MoreDifferentThan, IsTooMuch, Room, verdict_of, checked};
+ghost use Rattle.lock_check.specs.Findings.{NeverOverdue, EverOverdue, ShownOverdue, MoreUnlikeThan, MoreDifferentThan, IsTooMuch, Room, checked};
 
 use crate::finding::{Finding, Verdict};
 use canal_lock::{Chamber, Lock};
-use explorer::{Node, Outcome, Visit, explore};
+use explorer::{Node, Visit, explore};
 
 // Finds out whether a boat can ever be overdue at the lock, within the lent memory.
 pub fn check_lock(lock: &Lock, nodes: &mut [Node<Chamber>], visits: &mut [Visit]) -> Finding
@@ -29,23 +29,9 @@ pub fn check_lock(lock: &Lock, nodes: &mut [Node<Chamber>], visits: &mut [Visit]
     ensures antichain { Antichain (meaning lock.now) (length nodes.old) (length visits.old) (left_by (meaning lock.now) (length nodes.old) (length visits.old) nodes.new result.nodes visits.new result.visits) }
 {
     let (outcome, nodes, visits) = explore(lock, nodes, visits);
-    let verdict = verdict_of(outcome);
     Finding {
-        verdict,
+        verdict: Verdict::from(outcome),
         nodes,
         visits,
-    }
-}
-
-// The outcome in the lock's words.
-fn verdict_of(outcome: Outcome) -> Verdict
-    ensures { result ≡ verdict_of outcome }
-{
-    match outcome {
-        Outcome::Schedulable => Verdict::Safe,
-        Outcome::Unschedulable => Verdict::Unsafe,
-        Outcome::NodesFull => Verdict::NodesFull,
-        Outcome::VisitsFull => Verdict::VisitsFull,
-        Outcome::TooLarge => Verdict::TooLarge,
     }
 }

@@ -1,4 +1,5 @@
 // What a check of a lock finds.
+use explorer::Outcome;
 
 #[derive(Clone, Copy, Debug, PartialEq, Eq)]
 pub enum Verdict {
@@ -12,6 +13,24 @@ pub enum Verdict {
     VisitsFull,
     // more memory is lent than exploring takes
     TooLarge,
+}
+
+// The outcome in the lock's words.
+impl From<Outcome> for Verdict {
+    ghost use Rattle.std.specs.Prelude.{◌≡◌};
+    ghost use Rattle.lock_check.specs.Findings.{verdict_of};
+
+    ghost from_gives = { λ outcome verdict. verdict ≡ verdict_of outcome };
+
+    fn from(outcome: Outcome) -> Self {
+        match outcome {
+            Outcome::Schedulable => Verdict::Safe,
+            Outcome::Unschedulable => Verdict::Unsafe,
+            Outcome::NodesFull => Verdict::NodesFull,
+            Outcome::VisitsFull => Verdict::VisitsFull,
+            Outcome::TooLarge => Verdict::TooLarge,
+        }
+    }
 }
 
 // The verdict, and how many nodes and visits at the front of the lent memory tell of it.

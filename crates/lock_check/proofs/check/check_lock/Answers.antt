@@ -17,9 +17,9 @@ returns c =
     let L = length c.args.visits.now in
     let o : Outcome = c.explore-outcome.result.0 in
     let told = c.explore-outcome.ensures in
-    let verdict = c.verdict_of-verdict.ensures in
-    let was : (p : Outcome) → c.verdict_of-verdict.result ≡ verdict_of p → o ≡ p = λ p h. same_outcome o p (sym verdict ∙ h) in
-    let shows : (p : Outcome) → o ≡ p → c.verdict_of-verdict.result ≡ verdict_of p = λ p h. verdict ∙ ap verdict_of h in
+    let verdict = c.from.ensures in
+    let was : (p : Outcome) → c.from.result ≡ verdict_of p → o ≡ p = λ p h. same_outcome o p (sym verdict ∙ h) in
+    let shows : (p : Outcome) → o ≡ p → c.from.result ≡ verdict_of p = λ p h. verdict ∙ ap verdict_of h in
     record {
       never_overdue = λ h. never_overdue l (told.never_late (was Schedulable h));
       ever_overdue = λ h. ever_overdue l (told.ever_late (was Unschedulable h));
