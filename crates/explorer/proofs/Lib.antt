@@ -1,4 +1,3 @@
-pub mod Covers
 pub mod Enters
 pub mod Lents
 pub mod Sweeps

@@ -1,61 +1,43 @@
 // The nodes as an antichain: which of them simulates a state, which it simulates, and which to open next.
-ghost use Rattle.std.specs.Prelude.{◌≡◌, ℕ, ◌<◌, ◌≤◌, true, false, length, take, MatchOption, slice_index_or};
-ghost use Rattle.exploration.specs.Stores.{states};
-ghost use Rattle.exploration.specs.Exploring.{simulated, without};
+ghost use Rattle.std.specs.Prelude.{◌≡◌, not, take, position};
+ghost use Rattle.std.specs.List.{list_any};
+ghost use Rattle.exploration.specs.Exploring.{without};
+ghost use Rattle.explorer.specs.Memories.{Thinned};
 
-use exploration::Node;
+use crate::memory::Memory;
 use transition::System;
 
-// Whether one of the first `count` nodes simulates the state.
-pub(crate) fn covered<S: System>(
-    system: &S,
-    nodes: &[Node<S::State>],
-    count: usize,
-    state: &S::State,
-) -> bool
-    requires { count ≤ length nodes.now }
-    ensures { result ≡ simulated (S.System.meaning system.now) (states (take count nodes.now)) state.now }
-{
-    for i in 0..count {
-        if system.simulates(&nodes[i].state, state) {
-            return true;
-        }
+impl<T: Copy> Memory<'_, T> {
+    // Whether one of the nodes in use simulates the state.
+    pub(crate) fn covers<S: System<State = T>>(&self, system: &S, state: &T) -> bool
+        ensures { result ≡ list_any (λ n. (S.System.meaning system.now).simulates n.state state.now) (take self.now.kept self.now.nodes.now) }
+    {
+        self.nodes[..self.kept]
+            .iter()
+            .any(|node| system.simulates(&node.state, state))
     }
-    false
-}
 
-// Takes out those of the first `count` nodes that the state simulates, closes up the rest in their order, and
-// answers how many stay.
-pub(crate) fn close_up<S: System>(
-    system: &S,
-    nodes: &mut [Node<S::State>],
-    count: usize,
-    state: &S::State,
-) -> usize
-    requires { count ≤ length nodes.old }
-    ensures within { result ≤ count }
-    ensures stay { take result nodes.new ≡ without (S.System.meaning system.now) state.now (take count nodes.old) }
-{
-    let mut stay = 0;
-    for i in 0..count {
-        let node = nodes[i];
-        if !system.simulates(state, &node.state) {
-            nodes[stay] = node;
-            stay += 1;
+    // Takes out the nodes that the state simulates, and closes up the rest in their order.
+    pub(crate) fn close_up<S: System<State = T>>(&mut self, system: &S, state: &T)
+        ensures stay { take self.new.kept self.new.nodes.now ≡ without (S.System.meaning system.now) state.now (take self.old.kept self.old.nodes.now) }
+        ensures thinned { Thinned self.old self.new }
+    {
+        let mut stay = 0;
+        // A loop, and not `retain`: the lent slice keeps its length.
+        for i in 0..self.kept {
+            let node = self.nodes[i];
+            if !system.simulates(state, &node.state) {
+                self.nodes[stay] = node;
+                stay += 1;
+            }
         }
+        self.kept = stay;
     }
-    stay
-}
 
-// The first of the first `count` nodes that is not opened.
-pub(crate) fn first_unopened<T: Copy>(nodes: &[Node<T>], count: usize) -> Option<usize>
-    requires { count ≤ length nodes.now }
-    ensures { MatchOption result ((k : ℕ) (d : Node T) → k < count → (slice_index_or nodes.now k d).opened ≡ true) (λ i. (i < count) × ((d : Node T) → (slice_index_or nodes.now i d).opened ≡ false) × ((k : ℕ) (d : Node T) → k < i → (slice_index_or nodes.now k d).opened ≡ true)) }
-{
-    for i in 0..count {
-        if !nodes[i].opened {
-            return Some(i);
-        }
+    // The first of the nodes in use that is not opened.
+    pub(crate) fn first_unopened(&self) -> Option<usize>
+        ensures { result ≡ position (λ n. not n.opened) (take self.now.kept self.now.nodes.now) }
+    {
+        self.nodes[..self.kept].iter().position(|node| !node.opened)
     }
-    None
 }

@@ -1,12 +1,12 @@
 // Exploring a system: whatever its events lead to is entered, until all is opened or the outcome is known.
-ghost use Rattle.std.specs.Prelude.{◌≡◌, ◌≤◌, length, take, drop};
+ghost use Rattle.std.specs.Prelude.{◌≡◌, ◌≤◌, List, length, take, drop};
 ghost use Rattle.exploration.specs.Stores.{states, over};
-ghost use Rattle.exploration.specs.Exploring.{rest, explored};
+ghost use Rattle.exploration.specs.Exploring.{rest, exploring, explored};
 ghost use Rattle.exploration.specs.Claims.{IsTooLarge, Enough, Decides, NeverLate, EverLate, ShownLate, NodesHonestlyFull, VisitsHonestlyFull, EveryVisitTells, Closed, Antichain};
 ghost use Rattle.explorer.specs.Held.{held, shown, left_by, ComesTo};
+ghost use Rattle.explorer.specs.Memories.{holds, Extends};
 
-use crate::antichain::first_unopened;
-use crate::entering::{Counts, enter};
+use crate::memory::Memory;
 use exploration::{Node, Outcome, Visit};
 use transition::System;
 
@@ -40,50 +40,64 @@ pub fn explore<S: System>(
     if nodes.len() > MOST_NODES || visits.len() > MOST_VISITS {
         return (Outcome::TooLarge, 0, 0);
     }
-    let mut counts = Counts {
-        nodes: 0,
-        visits: 0,
-    };
-    let start = Visit {
-        parent: 0,
-        event: 0,
-    };
-    let outcome = match enter(system, nodes, visits, &mut counts, start, system.first()) {
-        Some(outcome) => outcome,
-        None => open_all(system, nodes, visits, &mut counts),
-    };
-    (outcome, counts.nodes, counts.visits)
+    explore_lent(system, nodes, visits)
 }
 
-// Opens the nodes one after another, and enters what their events lead to, until exploring is over.
-fn open_all<S: System>(
+// Explores the system in lent memory that is not too large, none of it in use.
+fn explore_lent<S: System>(
     system: &S,
     nodes: &mut [Node<S::State>],
     visits: &mut [Visit],
-    counts: &mut Counts,
-) -> Outcome
-    requires nodes_within { counts.old.nodes ≤ length nodes.old }
-    requires visits_within { counts.old.visits ≤ length visits.old }
-    ensures nodes_within { counts.new.nodes ≤ length nodes.old }
-    ensures visits_within { counts.new.visits ≤ length visits.old }
-    ensures ends { ComesTo (λ es. rest (S.System.meaning system.now) (length nodes.old) (length visits.old) (held nodes.old counts.old.nodes visits.old counts.old.visits es)) (λ es. over result (held nodes.new counts.new.nodes visits.new counts.new.visits es)) }
-    ensures grows { counts.old.visits ≤ counts.new.visits }
-    ensures untouched { drop counts.new.visits visits.new ≡ drop counts.new.visits visits.old }
+) -> (Outcome, usize, usize)
+    ensures ends { (es : List S.State) × (exploring (S.System.meaning system.now) (length nodes.old) (length visits.old) ≡ over result.0 (held nodes.new result.1 visits.new result.2 es)) }
+    ensures within { (result.1 ≤ length nodes.old) × (result.2 ≤ length visits.old) }
+    ensures untouched { drop result.2 visits.new ≡ drop result.2 visits.old }
 {
-    'explore: loop {
-        let Some(at) = first_unopened(nodes, counts.nodes) else {
-            break 'explore Outcome::Schedulable;
-        };
-        nodes[at].opened = true;
-        let node = nodes[at];
-        for event in 1..system.event_count() + 1 {
-            if let Ok(next) = system.next(&node.state, event) {
-                let from = Visit {
-                    parent: node.visit,
-                    event,
-                };
-                if let Some(outcome) = enter(system, nodes, visits, counts, from, next) {
-                    break 'explore outcome;
+    let mut memory = Memory {
+        nodes,
+        visits,
+        kept: 0,
+        written: 0,
+    };
+    let outcome = memory.run(system);
+    (outcome, memory.kept, memory.written)
+}
+
+impl<T: Copy> Memory<'_, T> {
+    // Enters the system's first state in memory that is not in use, and opens nodes until exploring is over.
+    fn run<S: System<State = T>>(&mut self, system: &S) -> Outcome
+        requires unused { (self.old.kept ≡ 0) × (self.old.written ≡ 0) }
+        ensures ends { (es : List T) × (exploring (S.System.meaning system.now) (length self.old.nodes.now) (length self.old.visits.now) ≡ over result (holds self.new es)) }
+        ensures same_nodes { self.new.nodes.ghost_name ≡ self.old.nodes.ghost_name }
+        ensures same_visits { self.new.visits.ghost_name ≡ self.old.visits.ghost_name }
+        ensures lent { Extends self.old self.new }
+    {
+        match self.enter(system, Visit::START, system.first()) {
+            Some(outcome) => outcome,
+            None => self.open_all(system),
+        }
+    }
+
+    // Opens the nodes one after another, and enters what their events lead to, until exploring is over.
+    fn open_all<S: System<State = T>>(&mut self, system: &S) -> Outcome
+        ensures ends { ComesTo (λ es. rest (S.System.meaning system.now) (length self.old.nodes.now) (length self.old.visits.now) (holds self.old es)) (λ es. over result (holds self.new es)) }
+        ensures lent { Extends self.old self.new }
+    {
+        'explore: loop {
+            let Some(at) = self.first_unopened() else {
+                break 'explore Outcome::Schedulable;
+            };
+            self.nodes[at].opened = true;
+            let node = self.nodes[at];
+            for event in 1..system.event_count() + 1 {
+                if let Ok(next) = system.next(&node.state, event) {
+                    let from = Visit {
+                        parent: node.visit,
+                        event,
+                    };
+                    if let Some(outcome) = self.enter(system, from, next) {
+                        break 'explore outcome;
+                    }
                 }
             }
         }

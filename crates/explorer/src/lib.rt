@@ -4,6 +4,7 @@
 mod antichain;
 mod entering;
 mod exploring;
+mod memory;
 
 pub use exploration::{Node, Outcome, Visit};
 pub use exploring::explore;
