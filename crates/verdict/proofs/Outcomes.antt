@@ -15,28 +15,28 @@ use Rattle.verdict.specs.declared.judgement.Verdict.TheVariants.{Schedulable, Un
 use Rattle.verdict.specs.Verdicts.{outcome_of, Decided, InFront}
 use Rattle.verdict.proofs.Calls.{states_never_late}
 
-module _ {S X R : Type 0} where
-  told_schedulable : (v : Verdict S X R) → outcome_of v ≡ outcome.Schedulable → v ≡ Schedulable
+module _ {F : Type 0} where
+  told_schedulable : (v : Verdict F) → outcome_of v ≡ outcome.Schedulable → v ≡ Schedulable
   told_schedulable Schedulable h = refl
   told_schedulable (Unschedulable f) h = let z : ◌≡◌ {A = ℕ} 0 1 = cc in absurd (omega arith)
   told_schedulable TooLarge h = let z : ◌≡◌ {A = ℕ} 0 1 = cc in absurd (omega arith)
   told_schedulable VisitsFull h = let z : ◌≡◌ {A = ℕ} 0 1 = cc in absurd (omega arith)
   told_schedulable NodesFull h = let z : ◌≡◌ {A = ℕ} 0 1 = cc in absurd (omega arith)
 
-  told_too_large : (v : Verdict S X R) → outcome_of v ≡ outcome.TooLarge → v ≡ TooLarge
+  told_too_large : (v : Verdict F) → outcome_of v ≡ outcome.TooLarge → v ≡ TooLarge
   told_too_large Schedulable h = let z : ◌≡◌ {A = ℕ} 0 1 = cc in absurd (omega arith)
   told_too_large (Unschedulable f) h = let z : ◌≡◌ {A = ℕ} 0 1 = cc in absurd (omega arith)
   told_too_large TooLarge h = refl
   told_too_large VisitsFull h = let z : ◌≡◌ {A = ℕ} 0 1 = cc in absurd (omega arith)
   told_too_large NodesFull h = let z : ◌≡◌ {A = ℕ} 0 1 = cc in absurd (omega arith)
 
-  abbrev judgement : Verdict S X R → ℕ → ℕ → Judgement S X R
+  abbrev judgement : Verdict F → ℕ → ℕ → Judgement F
   judgement v n m = record { verdict = v; nodes = n; visits = m }
 
-  pub refused_whole : (v : Verdict S X R) (o : Outcome) (n m : ℕ) → outcome_of v ≡ o → o ≡ outcome.TooLarge → n ≡ 0 → m ≡ 0 → ◌≡◌ {A = Judgement S X R} (record { verdict = v; nodes = n; visits = m }) (record { verdict = TooLarge; nodes = 0; visits = 0 })
+  pub refused_whole : (v : Verdict F) (o : Outcome) (n m : ℕ) → outcome_of v ≡ o → o ≡ outcome.TooLarge → n ≡ 0 → m ≡ 0 → ◌≡◌ {A = Judgement F} (record { verdict = v; nodes = n; visits = m }) (record { verdict = TooLarge; nodes = 0; visits = 0 })
   refused_whole v o n m is large none none' = ap (λ w. judgement w n m) (told_too_large v (is ∙ large)) ∙ ap (λ k. judgement TooLarge k m) none ∙ ap (judgement TooLarge 0) none'
 
-  pub decided : (means : S → Meaning X R) (s : S) (v : Verdict S X R) → Decides (means s) (outcome_of v) → Decided means s v
+  pub decided : {S X R : Type 0} (means : S → Meaning X R) (s : S) (v : Verdict F) → Decides (means s) (outcome_of v) → Decided means s v
   decided means s v d = record {
     never_late = λ h. told_schedulable v (d.never_late (states_never_late means s h));
     ever_late = d.ever_late;

@@ -1,3 +1,4 @@
+pub mod Maps
 pub mod Moments
 pub mod Failures
 pub mod Verdicts

@@ -12,7 +12,7 @@ use Rattle.verdict.specs.declared.judgement.Verdict.TheVariants.{Schedulable, Un
 use Rattle.verdict.specs.Moments.{RunsNeverLate}
 
 -- the outcome that a verdict tells
-abbrev pub outcome_of : {S X R : Type 0} → Verdict S X R → Outcome
+abbrev pub outcome_of : {F : Type 0} → Verdict F → Outcome
 outcome_of Schedulable = outcome.Schedulable
 outcome_of (Unschedulable f) = outcome.Unschedulable
 outcome_of TooLarge = outcome.TooLarge
@@ -20,7 +20,7 @@ outcome_of VisitsFull = outcome.VisitsFull
 outcome_of NodesFull = outcome.NodesFull
 
 -- the verdict says whether a run of the system is ever late
-pub record Decided {S X R : Type 0} (means : S → Meaning X R) (s : S) (v : Verdict S X R) : Type 0 where
+pub record Decided {S X R F : Type 0} (means : S → Meaning X R) (s : S) (v : Verdict F) : Type 0 where
   pub never_late : RunsNeverLate means s → v ≡ Schedulable
   pub ever_late : EverLate (means s) → outcome_of v ≡ outcome.Unschedulable
 

@@ -1,4 +1,6 @@
 // What is found out about a system.
+ghost use Rattle.verdict.specs.Maps.{Maps};
+
 use transition::{Run, System};
 
 // How a run came to be late: events that lead to a doomed state, forced events after them, and the late run.
@@ -9,12 +11,13 @@ pub struct Failure<S: System> {
     pub run: Run<S>,
 }
 
+// What exploring decides, where F is what is told of a late run.
 #[derive(Drop)]
-pub enum Verdict<S: System> {
+pub enum Verdict<F> {
     // no run is ever late
     Schedulable,
     // a run is late: this one
-    Unschedulable(Failure<S>),
+    Unschedulable(F),
     // more memory is lent than exploring takes
     TooLarge,
     // more states are reached than there are visits for
@@ -23,10 +26,26 @@ pub enum Verdict<S: System> {
     NodesFull,
 }
 
+impl<F> Verdict<F> {
+    // The same verdict, with what the function makes of the late run told of it.
+    pub fn map<G, M: FnOnce(F) -> G>(self, f: M) -> Verdict<G>
+        requires { M.IsAlwaysCallable f }
+        ensures { Maps (M.post f) self result }
+    {
+        match self {
+            Verdict::Schedulable => Verdict::Schedulable,
+            Verdict::Unschedulable(late) => Verdict::Unschedulable(f(late)),
+            Verdict::TooLarge => Verdict::TooLarge,
+            Verdict::VisitsFull => Verdict::VisitsFull,
+            Verdict::NodesFull => Verdict::NodesFull,
+        }
+    }
+}
+
 // The verdict, and how many nodes and visits at the front of the lent memory tell of it.
 #[derive(Drop)]
-pub struct Judgement<S: System> {
-    pub verdict: Verdict<S>,
+pub struct Judgement<F> {
+    pub verdict: Verdict<F>,
     pub nodes: usize,
     pub visits: usize,
 }

@@ -20,7 +20,7 @@ pub fn judge<S: System + Copy>(
     system: &S,
     nodes: &mut [Node<S::State>],
     visits: &mut [Visit],
-) -> Result<Judgement<S>, AllocError>
+) -> Result<Judgement<Failure<S>>, AllocError>
     ensures never_late { IfOk result (λ j. j.verdict ≡ Verdict.Schedulable → RunsNeverLate S.System.meaning system.now) }
     ensures closed { IfOk result (λ j. j.verdict ≡ Verdict.Schedulable → Closed (S.System.meaning system.now) (states (take j.nodes nodes.new))) }
     ensures shown_late { IfOk result (λ j. (f : Failure S S.State S.Reason) → j.verdict ≡ Verdict.Unschedulable f → Fails S.System.meaning system.now (take j.visits visits.new) f.events.items f.forced.items f.run) }
@@ -52,7 +52,7 @@ fn verdict_on<S: System + Copy>(
     system: &S,
     outcome: Outcome,
     visits: &[Visit],
-) -> Result<Verdict<S>, AllocError>
+) -> Result<Verdict<Failure<S>>, AllocError>
     requires { outcome ≡ Outcome.Unschedulable → ShownLate (S.System.meaning system.now) visits.now }
     ensures outcome { IfOk result (λ v. outcome_of v ≡ outcome) }
     ensures fails { IfOk result (λ v. (f : Failure S S.State S.Reason) → v ≡ Verdict.Unschedulable f → Fails S.System.meaning system.now visits.now f.events.items f.forced.items f.run) }
