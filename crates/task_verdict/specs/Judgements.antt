@@ -11,11 +11,10 @@ use Rattle.exploration.specs.Exploring.{explored}
 use Rattle.exploration.specs.Claims.{IsTooLarge, Enough, Decides, NeverLate, EverLate, NodesHonestlyFull, VisitsHonestlyFull, EveryVisitTells, Closed, Antichain}
 use Rattle.explorer.specs.Held.{shown, left_by}
 use Rattle.verdict.specs.Failures.{LateBy}
-use Rattle.verdict.specs.Verdicts.{InFront}
+use Rattle.verdict.specs.declared.judgement.Judgement.{Judgement}
+use Rattle.verdict.specs.declared.judgement.Verdict.TheVariants.{Schedulable, Unschedulable, TooLarge, VisitsFull, NodesFull}
+use Rattle.verdict.specs.Verdicts.{outcome_of, InFront}
 use Rattle.task_verdict.specs.declared.finding.LateRun.{LateRun}
-use Rattle.task_verdict.specs.declared.finding.TaskJudgement.{TaskJudgement}
-use Rattle.task_verdict.specs.declared.finding.TaskVerdict.TheVariants.{Schedulable, Unschedulable, TooLarge, VisitsFull, NodesFull}
-use Rattle.task_verdict.specs.Plain.{outcome_of}
 
 -- the nodes and visits that were lent, before and after
 pub record Lent : Type 0 where
@@ -32,7 +31,7 @@ module _ {R : Type 0} (M : Meaning State R) (l : Lent) where
   most_visits = length l.visits_before
 
   -- what the judgement tells
-  pub record Told (j : TaskJudgement) : Type 0 where
+  pub record Told (j : Judgement LateRun) : Type 0 where
     -- after schedulable: whatever events are made, accepted or refused, no state on the way is late, and the nodes show why
     pub never_late : j.verdict ≡ Schedulable → NeverLate M
     pub closed : j.verdict ≡ Schedulable → Closed M (states (take j.nodes l.nodes))
@@ -55,7 +54,7 @@ module _ {R : Type 0} (M : Meaning State R) (l : Lent) where
     pub antichain : Antichain M most_nodes most_visits (left_by M most_nodes most_visits l.nodes j.nodes l.visits j.visits)
 
   -- what the answer tells, with a judgement or without
-  pub record Judged (r : Result TaskJudgement AllocError) : Type 0 where
+  pub record Judged (r : Result (Judgement LateRun) AllocError) : Type 0 where
     pub told : IfOk r Told
     -- too much memory is refused, and nothing is touched
     pub too_large : IsTooLarge most_nodes most_visits → (r ≡ Ok (record { verdict = TooLarge; nodes = 0; visits = 0 })) × (l.nodes ≡ l.nodes_before) × (l.visits ≡ l.visits_before)

@@ -1,5 +1,10 @@
 // What is found out about a table of tasks.
+ghost use Rattle.std.specs.Prelude.{◌≡◌};
+ghost use Rattle.task_verdict.specs.Plain.{state_alone};
+
 use job_state::State;
+use transition::System;
+use verdict::{Failure, Judgement, Verdict};
 
 // How a run of the tasks came to be late: events that lead to a doomed state, forced events after them, and the
 // late state.
@@ -10,24 +15,27 @@ pub struct LateRun {
     pub state: State,
 }
 
-#[derive(Drop)]
-pub enum TaskVerdict {
-    // no run is ever late
-    Schedulable,
-    // a run is late: this one
-    Unschedulable(LateRun),
-    // more memory is lent than exploring takes
-    TooLarge,
-    // more states are reached than there are visits for
-    VisitsFull,
-    // more states are kept than there are nodes for
-    NodesFull,
+// The late run of a system whose states are those of tasks, with its state alone.
+impl<S: System<State = State> + Drop> From<Failure<S>> for LateRun {
+    ghost from_gives = { λ failure late. late ≡ state_alone failure };
+
+    fn from(failure: Failure<S>) -> Self {
+        let Failure {
+            events,
+            forced,
+            run,
+        } = failure;
+        let state = *run.state();
+        LateRun {
+            events,
+            forced,
+            state,
+        }
+    }
 }
 
-// The verdict, and how many nodes and visits at the front of the lent memory tell of it.
-#[derive(Drop)]
-pub struct TaskJudgement {
-    pub verdict: TaskVerdict,
-    pub nodes: usize,
-    pub visits: usize,
-}
+// The verdict on tasks.
+pub type TaskVerdict = Verdict<LateRun>;
+
+// The judgement of tasks.
+pub type TaskJudgement = Judgement<LateRun>;

@@ -3,20 +3,19 @@ ghost use Rattle.std.specs.Prelude.{◌≡◌, true, IfOk};
 ghost use Rattle.task_table.specs.Tables.{tasks_of};
 ghost use Rattle.job_state.specs.States.{late};
 ghost use Rattle.task_laws.specs.Systems.{meaning as means};
-ghost use Rattle.task_verdict.specs.Plain.{plain};
 ghost use Rattle.task_verdict.specs.Judgements.{Judged};
 ghost use Rattle.task_verdict.specs.Misses.{NeverMisses};
 
-use crate::finding::{LateRun, TaskJudgement, TaskVerdict};
+use crate::finding::{LateRun, TaskJudgement};
 use explorer::{Node, Visit};
 use job_state::State;
 use jobs::Kind;
 use policies::Policy;
 use std::alloc::{AllocError, Global};
-use task_systems::{Periodic, Sporadic};
+use task_systems::TaskSystem;
 use task_table::table::TaskTable;
 use transition::System;
-use verdict::{Failure, Judgement, Verdict, judge};
+use verdict::{Judgement, Verdict, judge};
 
 // Finds out whether a run of the tasks is ever late, within the lent memory, and how it comes to that.
 pub fn judge_tasks<P: Policy + Copy>(
@@ -28,19 +27,11 @@ pub fn judge_tasks<P: Policy + Copy>(
     visits: &mut [Visit],
 ) -> Result<TaskJudgement, AllocError>
     ensures judged { Judged (means (P.Policy.picks policy) kind (tasks_of table.now)) (record { nodes_before = nodes.old; visits_before = visits.old; nodes = nodes.new; visits = visits.new }) result }
-    ensures never_misses { IfOk result (λ j. j.verdict ≡ TaskVerdict.Schedulable → NeverMisses (P.Policy.picks policy) kind (tasks_of table.now)) }
-    ensures misses { IfOk result (λ j. (f : LateRun) → j.verdict ≡ TaskVerdict.Unschedulable f → late (tasks_of table.now) f.state ≡ true) }
+    ensures never_misses { IfOk result (λ j. j.verdict ≡ Verdict.Schedulable → NeverMisses (P.Policy.picks policy) kind (tasks_of table.now)) }
+    ensures misses { IfOk result (λ j. (f : LateRun) → j.verdict ≡ Verdict.Unschedulable f → late (tasks_of table.now) f.state ≡ true) }
 {
-    match kind {
-        Kind::Sporadic => {
-            let system = Sporadic::new(*table, policy);
-            judge_system(heap, &system, nodes, visits)
-        }
-        Kind::Periodic => {
-            let system = Periodic::new(*table, policy);
-            judge_system(heap, &system, nodes, visits)
-        }
-    }
+    let system = TaskSystem::of(kind, *table, policy);
+    judge_system(heap, &system, nodes, visits)
 }
 
 // Judges a system whose states are those of tasks.
@@ -57,35 +48,9 @@ fn judge_system<S: System<State = State> + Copy>(
         nodes: node_count,
         visits: visit_count,
     } = judge(heap, system, nodes, visits)?;
-    Ok(TaskJudgement {
-        verdict: without_run(verdict),
+    Ok(Judgement {
+        verdict: verdict.map(|failure| LateRun::from(failure)),
         nodes: node_count,
         visits: visit_count,
     })
-}
-
-// The verdict, with the state alone kept of a late run.
-fn without_run<S: System<State = State> + Drop>(verdict: Verdict<S>) -> TaskVerdict
-    ensures { result ≡ plain verdict }
-{
-    match verdict {
-        Verdict::Schedulable => TaskVerdict::Schedulable,
-        Verdict::Unschedulable(
-            Failure {
-                events,
-                forced,
-                run,
-            },
-        ) => {
-            let state = *run.state();
-            TaskVerdict::Unschedulable(LateRun {
-                events,
-                forced,
-                state,
-            })
-        }
-        Verdict::TooLarge => TaskVerdict::TooLarge,
-        Verdict::VisitsFull => TaskVerdict::VisitsFull,
-        Verdict::NodesFull => TaskVerdict::NodesFull,
-    }
 }

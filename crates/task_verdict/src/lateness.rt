@@ -13,10 +13,9 @@ pub fn late_tasks(heap: Global, table: &TaskTable, state: &State) -> Result<Vec<
     ensures numbers { IfOk result (λ v. v.items ≡ late_numbers 0 (tasks_of table.now) state.now.jobs) }
     ensures somebody { IfOk result (λ v. late (tasks_of table.now) state.now ≡ true → 0 < length v.items) }
 {
-    let tasks = table.tasks();
     let mut numbers = Vec::new(heap);
-    for i in 0..tasks.len() {
-        if state.jobs[i].is_late(&tasks[i]) {
+    for (i, task) in table.tasks().iter().enumerate() {
+        if state.jobs[i].is_late(task) {
             numbers.push(i + 1)?;
         }
     }

@@ -1,11 +1,11 @@
-use Rattle.std.proofs.Common.{◌≡◌, sym, ap, ◌∙◌}
-use Rattle.verdict.specs.Verdicts as of_systems
+use Rattle.std.proofs.Common.{◌≡◌, rules, sym, ap, ◌∙◌}
+use Rattle.verdict.specs.declared.judgement.Verdict.{Verdict}
+use Rattle.verdict.specs.declared.judgement.Verdict.TheVariants.{Schedulable, Unschedulable, TooLarge, VisitsFull, NodesFull}
+use Rattle.verdict.specs.Verdicts.{outcome_of}
 use Rattle.verdict.proofs.Calls.{runs_never_late, states_never_late}
 use Rattle.verdict.proofs.Outcomes.{as_told}
-use Rattle.task_verdict.specs.declared.finding.TaskVerdict.{TaskVerdict}
-use Rattle.task_verdict.specs.declared.finding.TaskVerdict.TheVariants.{Schedulable, Unschedulable, TooLarge, VisitsFull, NodesFull}
-use Rattle.task_verdict.specs.Plain.{outcome_of}
-use Rattle.task_verdict.proofs.Plains.{failure, restored, known, same_outcome, refused_whole}
+use Rattle.task_verdict.specs.declared.finding.LateRun.{LateRun}
+use Rattle.task_verdict.proofs.Plains.{plain, plain_mapped, failure, restored, known, same_outcome, refused_whole}
 use Rattle.task_verdict.proofs.judging.judge_system.Goals as goal
 
 pub returns : goal.returns
@@ -14,9 +14,9 @@ returns g c =
     let s = c.args.system.now in
     let e = c.in_ok-verdict.ensures in
     let j = c.in_ok-verdict.field-0 in
-    let kept_of = c.without_run.ensures in
-    let was : (w : TaskVerdict) → c.without_run.result ≡ w → j.verdict ≡ restored s w = λ w h. known s j.verdict w (λ f is. (e.shown_late f is).of_system) (sym kept_of ∙ h) in
-    let shows : outcome_of c.without_run.result ≡ of_systems.outcome_of j.verdict = ap outcome_of kept_of ∙ same_outcome j.verdict in
+    let kept_of : c.map.result ≡ plain j.verdict = plain_mapped _ (λ f l made. search rules) j.verdict c.map.result c.map.ensures in
+    let was : (w : Verdict LateRun) → c.map.result ≡ w → j.verdict ≡ restored s w = λ w h. known s j.verdict w (λ f is. (e.shown_late f is).of_system) (sym kept_of ∙ h) in
+    let shows : outcome_of c.map.result ≡ outcome_of j.verdict = ap outcome_of kept_of ∙ same_outcome j.verdict in
     record {
       told = record {
         never_late = λ h. states_never_late means s (e.never_late (was Schedulable h));
@@ -29,7 +29,7 @@ returns g c =
         decides = λ enough.
             let d = e.decides enough in
             record {
-              never_late = λ h. shows ∙ ap of_systems.outcome_of (d.never_late (runs_never_late means s h));
+              never_late = λ h. shows ∙ ap outcome_of (d.never_late (runs_never_late means s h));
               ever_late = λ h. shows ∙ d.ever_late h;
             };
         answers = as_told _ _ _ _ _ shows e.answers;
@@ -38,6 +38,6 @@ returns g c =
         every_visit_tells = e.every_visit_tells;
         antichain = e.antichain;
       };
-      too_large = λ large. let left = e.too_large large in (refused_whole j c.without_run.result kept_of left.0, left.1, left.2);
+      too_large = λ large. let left = e.too_large large in (refused_whole j c.map.result kept_of left.0, left.1, left.2);
       no_memory = tt;
     }
