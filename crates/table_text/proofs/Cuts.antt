@@ -3,8 +3,9 @@ use Rattle.std.proofs.Common.{◌≡◌, ℕ, ◌+◌, ◌≤◌, Bool, true, fa
 use denote.Param.Members.{Mut}
 use Rattle.std.specs.List.{slice_split, slice_get, position_or_len, FoldsTo}
 use Rattle.std.specs.Fn.{CalledAt}
-use Rattle.std.specs.Iterator.{YieldsFirstBy, Yields, FindsItem, MakesProgress, item_count}
+use Rattle.std.specs.Iterator.{YieldsFirstBy, Yields, SkipsThenYields, FindsItem, MakesProgress, item_count}
 use Rattle.std.specs.Option.{option_map}
+use Rattle.std.proofs.lemmas.Iterator.Consumers.{nth_from_yields_List, YieldsList-from_first}
 use Rattle.std.proofs.lemmas.List.Splits.{slice_split_first, slice_split_none, length-slice_split}
 use Rattle.std.proofs.lemmas.List.Sums.{fails_before_first, count_by-le-length, length-filter}
 use Rattle.std.proofs.lemmas.Option.{unwrap_or-slice_get}
@@ -32,9 +33,13 @@ words_few bs =
     omega (arith, length-filter filled pieces, count_by-le-length filled pieces, pieces_few (separates Blank) bs)
 
 -- what stands at a place, or nothing
-pub found_at : (xs : List (List ℕ)) (n : ℕ) (found : Option (Bor (List ℕ))) (none : Bor (List ℕ)) → option_map (λ x. x.now) found ≡ slice_get xs n → none.now ≡ [] → (unwrap_or found none).now ≡ get_or xs n []
+found_at : (xs : List (List ℕ)) (n : ℕ) (found : Option (Bor (List ℕ))) (none : Bor (List ℕ)) → option_map (λ x. x.now) found ≡ slice_get xs n → none.now ≡ [] → (unwrap_or found none).now ≡ get_or xs n []
 found_at xs n None none e f = f ∙ ap (λ o. unwrap_or o []) e ∙ unwrap_or-slice_get xs n []
 found_at xs n (Some x) none e f = ap (λ o. unwrap_or o []) e ∙ unwrap_or-slice_get xs n []
+
+-- `nth` over an iterator that shows what is left, and nothing where it has fewer
+pub nth_found : {S : Type 0} (left : S → List (List ℕ)) (s u : S) (xs : List (List ℕ)) (n : ℕ) (found : Option (Bor (List ℕ))) (none : Bor (List ℕ)) → left s ≡ xs → SkipsThenYields (YieldsFirstBy (λ x. x.now) left) s n found u → none.now ≡ [] → (unwrap_or found none).now ≡ get_or xs n []
+nth_found left s u xs n found none e ran f = found_at xs n found none (nth_from_yields_List found u n ran (YieldsList-from_first (λ x. x.now) left xs e)) f
 
 -- `find` by a test, over an iterator that shows what is left: the first that passes comes, and those behind it that pass are left
 module _ {S A B F : Type 0} (v : A → B) (left : S → List B) (test : B → Bool) (g : Mut F (Bor A × Unit {0}) Bool) (f : F) (computes : (x : A) (b : Bool) (q : F) → CalledAt g f x b q → (q ≡ f) × (b ≡ test (v x))) where

@@ -124,6 +124,5 @@ pub(crate) fn word_at(line: &[u8], place: usize) -> &[u8]
 pub(crate) fn line_at(bytes: &[u8], place: usize) -> &[u8]
     ensures { result.now ≡ slice_index_or (lines bytes.now) place [] }
 {
-    let mut lines = Separator::Newline.pieces(bytes);
-    lines.nth(place).unwrap_or(&[])
+    Separator::Newline.pieces(bytes).nth(place).unwrap_or(&[])
 }
