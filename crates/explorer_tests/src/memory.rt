@@ -10,12 +10,7 @@ pub(crate) fn lent_nodes(heap: Global, count: usize) -> Result<Vec<Node<Chamber>
         boat: None,
         pause: 0,
     };
-    let node = Node {
-        state,
-        visit: 0,
-        opened: false,
-    };
-    vec![in heap; node; count]
+    vec![in heap; Node::unused(state); count]
 }
 
 // So many visits, with nothing of note in them.

@@ -63,10 +63,7 @@ fn visits_of(heap: Global, text: &str) -> Result<Vec<Visit>, Fail> {
 
 // How many events are told, or the refusal's number.
 fn told(answer: Result<usize, TraceRefusal>) -> usize {
-    match answer {
-        Ok(count) => count,
-        Err(refusal) => usize::from(refusal.number()),
-    }
+    answer.unwrap_or_else(|refusal| usize::from(refusal.number()))
 }
 
 // Traces the visit, and compares the answer and the whole list after it.
