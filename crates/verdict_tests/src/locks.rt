@@ -5,19 +5,14 @@ use std::alloc::Global;
 use std::process::Abort;
 use std::test::Fail;
 use transition::System;
-use verdict::{Judgement, Verdict, is_ever_late, judge, run_after};
+use verdict::{Failure, Judgement, Verdict, is_ever_late, judge, run_after};
 
-fn judged(heap: Global, lock: &Lock) -> Result<Judgement<Lock>, Fail> {
-    let node = Node {
-        state: lock.first(),
-        visit: 0,
-        opened: false,
-    };
+fn judged(heap: Global, lock: &Lock) -> Result<Judgement<Failure<Lock>>, Fail> {
     let visit = Visit {
         parent: 9,
         event: 9,
     };
-    let mut nodes = [node; 64];
+    let mut nodes = [Node::unused(lock.first()); 64];
     let mut visits = [visit; 128];
     Ok(judge(heap, lock, &mut nodes, &mut visits)?)
 }
@@ -32,23 +27,21 @@ fn fails_so(
     forced: usize,
 ) -> Result<(), Fail> {
     let judgement = judged(heap, &lock)?;
-    match judgement.verdict {
-        Verdict::Unschedulable(failure) => {
-            assert_eq!(rt; failure.events.len(), events, "{figures}");
-            assert_eq!(rt; failure.forced.len(), forced, "{figures}");
-            assert!(rt; failure.run.is_late(), "{figures}");
-            let mut calls = failure.events.clone()?;
-            calls.extend_from_slice(&failure.forced)?;
-            assert!(rt; run_after(lock, &calls).is_late(), "{figures}");
-            assert!(rt; is_ever_late(lock, &calls), "{figures}");
-            assert!(rt;
-                !is_ever_late(lock, &failure.events) || forced == 0,
-                "{figures}"
-            );
-            Ok(())
-        }
-        _ => Err(Fail::new("not unschedulable")),
-    }
+    let Verdict::Unschedulable(failure) = judgement.verdict else {
+        return Err(Fail::new("not unschedulable"));
+    };
+    assert_eq!(rt; failure.events.len(), events, "{figures}");
+    assert_eq!(rt; failure.forced.len(), forced, "{figures}");
+    assert!(rt; failure.run.is_late(), "{figures}");
+    let mut calls = failure.events.clone()?;
+    calls.extend_from_slice(&failure.forced)?;
+    assert!(rt; run_after(lock, &calls).is_late(), "{figures}");
+    assert!(rt; is_ever_late(lock, &calls), "{figures}");
+    assert!(rt;
+        !is_ever_late(lock, &failure.events) || forced == 0,
+        "{figures}"
+    );
+    Ok(())
 }
 
 #[test]
