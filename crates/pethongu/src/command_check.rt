@@ -5,8 +5,8 @@ use command_options::settings::Settings;
 use command_reading::bounds::CheckBounds;
 use explorer::{Node, Visit};
 use std::alloc::{AllocError, Global};
-use std::io;
 use std::process::ExitCode;
+use std::{fmt, io};
 use table_source::Source;
 use task_verdict::{LateRun, TaskJudgement, TaskVerdict, judge_tasks, late_tasks};
 use verdict_print::{AnswerLine, Grounds, NumberLine};
@@ -79,29 +79,19 @@ fn print_answer(
     println!(rt; "{}", AnswerLine(judgement))?;
     if let TaskVerdict::Unschedulable(late) = &judgement.verdict {
         let numbers = late_tasks(rt.alloc(), &system.table, &late.state)?;
-        println!(rt;
-            "{}",
-            NumberLine {
-                word: "trace",
-                numbers: &late.events,
-            }
-        )?;
-        println!(rt;
-            "{}",
-            NumberLine {
-                word: "forced",
-                numbers: &late.forced,
-            }
-        )?;
-        println!(rt;
-            "{}",
-            NumberLine {
-                word: "late",
-                numbers: &numbers,
-            }
-        )?;
+        print_numbers(rt, "trace", &late.events)?;
+        print_numbers(rt, "forced", &late.forced)?;
+        print_numbers(rt, "late", &numbers)?;
     }
     Ok(())
+}
+
+fn print_numbers<T: fmt::Display>(
+    rt: &HostRuntime,
+    word: &'static str,
+    numbers: &[T],
+) -> io::Result<()> {
+    println!(rt; "{}", NumberLine { word, numbers })
 }
 
 // The verdict with its grounds, and the failing run where there is one.

@@ -29,9 +29,7 @@ impl<'a> System<'a> {
         settings: &'a Settings,
     ) -> Result<System<'a>, Trouble<'b>> {
         let table = sealed_table(rt, source)?;
-        let policy = choose_policy(settings, table.len()).map_err(|wrong| Trouble::WrongCount(
-            wrong,
-        ))?;
+        let policy = choose_policy(settings, table.len())?;
         Ok(System {
             table,
             policy,

@@ -20,7 +20,7 @@ pub(crate) enum Trouble<'a> {
     #[error("{0}")]
     Faulty(FaultyFile<'a>),
     #[error("{} has {} numbers, and the table has {} tasks", .0.option.word(), .0.given, .0.tasks)]
-    WrongCount(WrongCount),
+    WrongCount(#[from] WrongCount),
     #[error("{0}")]
     Outside(#[from] io::Error),
     #[error("there is no memory left")]
