@@ -40,9 +40,7 @@ fn told(choice: Choice) -> &'static str {
 fn chosen(heap: Global, case: &str) -> Result<&'static str, Fail> {
     let (tasks, options) = case.split_once(" ").ok_or("no count")?;
     let mut words = vec![in heap; "run", "--events", "1"]?;
-    for word in options.split_whitespace() {
-        words.push(word)?;
-    }
+    words.extend(options.split_whitespace())?;
     let Ok(Command::Run { settings, .. }) = read_words(heap, &words) else {
         return Err(Fail::new("no run"));
     };

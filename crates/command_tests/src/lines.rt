@@ -104,10 +104,10 @@ fn told(heap: Global, answer: &Result<Command<'_>, Misuse<'_>>) -> Result<String
 }
 
 fn asked(heap: Global, line: &str) -> Result<String, Fail> {
-    let mut words = Vec::new(heap);
-    for word in line.split_whitespace() {
-        words.push(if word == "''" { "" } else { word })?;
-    }
+    let words: Vec<&str> = line
+        .split_whitespace()
+        .map(|word| if word == "''" { "" } else { word })
+        .collect(heap)?;
     told(heap, &read_words(heap, &words))
 }
 

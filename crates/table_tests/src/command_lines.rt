@@ -18,7 +18,7 @@ tables => Err(UnknownCommand(\"tables\"))
 ";
 
 fn asked(heap: Global, line: &str) -> Result<String, Fail> {
-    let words = line.split_whitespace().collect::<Vec<&str>>(heap)?;
+    let words: Vec<&str> = line.split_whitespace().collect(heap)?;
     Ok(format!(in heap; "{:?}", read_words(&words))?)
 }
 
