@@ -7,3 +7,4 @@ pub mod system;
 
 pub use lock::{Chamber, Lock};
 pub use refusal::LockRefusal;
+pub use system::{COMES, TICK};

@@ -9,10 +9,10 @@ use crate::refusal::LockRefusal;
 use transition::{Refusal, System};
 
 // the event that a boat comes
-const COMES: u8 = 1;
+pub const COMES: u8 = 1;
 
 // the event that one tick of time goes by
-const TICK: u8 = 2;
+pub const TICK: u8 = 2;
 
 impl System for Lock {
     type State = Chamber;

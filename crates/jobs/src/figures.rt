@@ -44,10 +44,7 @@ fn signed_gain(task: &Task) -> i16
 pub(crate) fn is_active(mode: Mode, task: &Task) -> bool
     ensures { result ≡ active mode task.now }
 {
-    match mode {
-        Mode::Low => true,
-        Mode::High => is_high(task),
-    }
+    mode == Mode::Low || is_high(task)
 }
 
 pub(crate) fn budget(mode: Mode, task: &Task) -> u8

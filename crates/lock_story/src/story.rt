@@ -7,7 +7,7 @@ ghost use Rattle.canal_lock.specs.Locks.{meaning};
 ghost use Rattle.lock_check.specs.Findings.{checked};
 
 use crate::words::{Answer, Ended, Event, Found, Moment};
-use canal_lock::{Chamber, Lock};
+use canal_lock::{Chamber, Lock, TICK};
 use exploration::TraceRefusal;
 use explorer::{Node, Outcome, Visit, explore};
 use lock_check::{Finding, check_lock};
@@ -18,9 +18,6 @@ use transition::{Run, System};
 
 // no more forced events than this lead from a doomed chamber to an overdue boat
 const MOST_FORCED: u16 = 1151;
-
-// the event that one tick of time goes by
-const TICK: u8 = 2;
 
 // Checks the lock, and tells its figures, the verdict, and how many chambers are kept and visited.
 pub fn tell_check(

@@ -2,7 +2,7 @@
 ghost use Rattle.std.specs.Prelude.{◌≡◌, Some};
 ghost use Rattle.lock_story.specs.Words.{event, answer, moment, found, ended};
 
-use canal_lock::{Chamber, LockRefusal};
+use canal_lock::{COMES, Chamber, LockRefusal, TICK};
 use explorer::Outcome;
 use lock_check::Verdict;
 use numbered_refusals::Numbered;
@@ -19,8 +19,8 @@ impl Event {
         ensures { result.now ≡ event self.0 }
     {
         match self.0 {
-            1 => "a boat comes",
-            2 => "a tick passes",
+            COMES => "a boat comes",
+            TICK => "a tick passes",
             _ => "no event of the lock",
         }
     }

@@ -6,7 +6,7 @@ use numbered_refusals::Numbered;
 use run_words::JobWord;
 use std::fmt;
 use std::fmt::Write;
-use task_runs::{TaskStep, Tick, is_tick};
+use task_runs::{FINISHING_TICK, TICK, TaskStep, Tick, is_tick};
 use task_table::mode::Mode;
 use task_table::task::Task;
 
@@ -70,11 +70,8 @@ fn write_state<W: fmt::Write>(
     tasks: usize,
     state: &State,
 ) -> fmt::Result {
-    let mode = match state.mode {
-        Mode::Low => "low ",
-        Mode::High => "high",
-    };
-    write!(f, "{clock:>4}  {mode}  ")?;
+    let mode = state.mode;
+    write!(f, "{clock:>4}  {mode:<4}  ")?;
     for job in state.jobs.iter().take(tasks) {
         let mut word = ArrayString::<8>::new();
         write!(word, "{}", JobWord(*job))?;
@@ -96,8 +93,8 @@ fn write_event<W: fmt::Write>(
     }
     match event {
         1..=8 => write!(f, "release of task {event}")?,
-        9 => write!(f, "tick")?,
-        10 => write!(f, "finishing tick")?,
+        TICK => write!(f, "tick")?,
+        FINISHING_TICK => write!(f, "finishing tick")?,
         _ => write!(f, "no event")?,
     }
     match &step.answer {
@@ -115,9 +112,9 @@ fn write_ran<W: fmt::Write>(
     ran: Option<usize>,
 ) -> fmt::Result {
     match (event, ran) {
-        (9, Some(number)) => write!(f, ", task {number} ran"),
-        (9, None) => write!(f, ", nobody ran"),
-        (10, Some(number)) => write!(f, ", task {number} ran and ended"),
+        (TICK, Some(number)) => write!(f, ", task {number} ran"),
+        (TICK, None) => write!(f, ", nobody ran"),
+        (FINISHING_TICK, Some(number)) => write!(f, ", task {number} ran and ended"),
         _ => Ok(()),
     }
 }

@@ -29,10 +29,10 @@ impl Reading {
     fn take_line(&mut self, number: usize, line: &[u8]) -> Result<(), AllocFailed<Fault>>
         ensures { OnOk result (read_so_far self.new ≡ with_line (read_so_far self.old) number line.now) }
     {
-        match self.add_task(line) {
-            Ok(()) => Ok(()),
-            Err(slip) => self.faults.push(Fault { line: number, slip }),
+        if let Err(slip) = self.add_task(line) {
+            self.faults.push(Fault { line: number, slip })?;
         }
+        Ok(())
     }
 
     // Takes up all lines.

@@ -5,4 +5,5 @@ pub mod recording;
 pub mod ticking;
 
 pub use recording::{TaskStep, record_run};
+pub use task_systems::{FINISHING_TICK, TICK};
 pub use ticking::{Tick, is_tick, list_ticks};

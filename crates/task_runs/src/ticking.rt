@@ -6,6 +6,7 @@ use crate::recording::TaskStep;
 use job_state::State;
 use policies::Policy;
 use std::alloc::{AllocError, Global};
+use task_systems::{FINISHING_TICK, TICK};
 use task_table::task::Task;
 
 // The state in which the tick begins, and the number of the task that runs at it.
@@ -41,5 +42,5 @@ pub fn list_ticks<P: Policy>(
 pub fn is_tick(step: &TaskStep) -> bool
     ensures { result ≡ is_tick step.now }
 {
-    step.answer.is_ok() && (step.event == 9 || step.event == 10)
+    step.answer.is_ok() && matches!(step.event, TICK | FINISHING_TICK)
 }

@@ -21,7 +21,10 @@ pub(crate) fn tell(refusal: JobRefusal) -> Refusal<JobRefusal>
 }
 
 // The state, where the answer accepts it.
-pub(crate) fn accept(answer: Result<(), JobRefusal>, state: State) -> Result<State, Refusal<JobRefusal>>
+pub(crate) fn accept(
+    answer: Result<(), JobRefusal>,
+    state: State,
+) -> Result<State, Refusal<JobRefusal>>
     ensures { result ≡ accepted_as answer state }
 {
     answer.map(|()| state).map_err(tell)

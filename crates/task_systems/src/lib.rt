@@ -6,4 +6,5 @@ pub mod releases;
 pub mod system;
 
 pub use releases::{PeriodicReleases, Releases, SporadicReleases};
+pub use system::events::{FINISHING_TICK, TICK};
 pub use system::{Periodic, Sporadic, TaskSystem};

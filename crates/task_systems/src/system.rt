@@ -1,5 +1,5 @@
 // A table of tasks under a policy, as a transition system.
-mod events;
+pub mod events;
 mod forces;
 mod simulation;
 

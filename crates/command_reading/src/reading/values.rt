@@ -94,9 +94,7 @@ impl<'a> Reading<'a> {
             self.take_flag(flag);
             return Ok(());
         }
-        let Some(key) = find_named(&KEYS, word) else {
-            return Err(Misuse::UnknownOption(word));
-        };
+        let key = find_named(&KEYS, word).ok_or(Misuse::UnknownOption(word))?;
         if !verb.takes_key(key) {
             return Err(Misuse::NotHere(word));
         }

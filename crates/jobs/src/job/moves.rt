@@ -91,8 +91,5 @@ impl Job {
 fn is_last_budget(mode: Mode, task: &Task) -> bool
     ensures { result ≡ last_budget mode task.now }
 {
-    match mode {
-        Mode::Low => task.budget_low == task.budget_high,
-        Mode::High => true,
-    }
+    mode == Mode::High || task.budget_low == task.budget_high
 }

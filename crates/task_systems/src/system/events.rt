@@ -12,9 +12,11 @@ use jobs::JobRefusal;
 use policies::Policy;
 use transition::Refusal;
 
-const TICK: u8 = 9;
+// the event that a tick of time goes by
+pub const TICK: u8 = 9;
 
-const FINISHING_TICK: u8 = 10;
+// the event that a tick goes by in which the picked job ends
+pub const FINISHING_TICK: u8 = 10;
 
 impl<R: Releases, P: Policy> TaskSystem<R, P> {
     #[tactic(auto, unfolding(task_laws::specs::Systems::gives))]
