@@ -70,11 +70,7 @@ fn refuses_so(rt: &impl Abort, lock: &Lock, line: &str) -> Result<(), Fail> {
     let mut words = line.split_whitespace();
     let state = chamber(&mut words)?;
     let event = byte(&mut words)?;
-    assert_eq!(rt;
-        told(lock.next(&state, event)),
-        byte(&mut words)?,
-        "{line}"
-    );
+    assert_eq!(rt; told(lock.next(&state, event)), byte(&mut words)?, "{line}");
     assert_eq!(rt;
         told(lock.forced_event(&state)),
         byte(&mut words)?,
