@@ -19,6 +19,7 @@ use Rattle.transition.specs.Runs.{after, told, walk}
 use Rattle.task_laws.specs.Systems.{meaning}
 
 -- an event and its answer: 0 where it is accepted, else the number of the refusal
+-- (a number and no case of an enum, since the cases are read beside the list of refusals by number)
 abbrev pub Answered : Type 0
 Answered = ℕ × ℕ
 
