@@ -18,6 +18,7 @@ pub fn lowest_passing<F: Fn(&Task, Job) -> bool>(
     requires { F.IsAlwaysCallable test }
     ensures { (passes : Task → Job → Bool) → Answers F.Fn test passes → result ≡ lowest passes 0 tasks.now jobs.now }
 {
+    // The check does not follow `position` over a zip.
     for (i, (task, job)) in tasks.iter().zip(jobs).enumerate() {
         if test(task, *job) {
             return Some(i + 1);
@@ -40,6 +41,7 @@ pub fn every_passes<F: Fn(&Task, Job) -> bool>(test: F, tasks: &[Task], jobs: &[
     requires { F.IsAlwaysCallable test }
     ensures { (passes : Task → Job → Bool) → Answers F.Fn test passes → result ≡ every passes tasks.now jobs.now }
 {
+    // The check does not follow `all` over a zip.
     for (i, job) in jobs.iter().enumerate() {
         let passes = match tasks.get(i) {
             Some(task) => test(task, *job),
@@ -58,6 +60,7 @@ pub fn change_all<F: Fn(&Task, Job) -> Job>(change: F, tasks: &[Task], jobs: &mu
     requires { F.IsAlwaysCallable change }
     ensures { (changed : Task → Job → Job) → Answers F.Fn change changed → jobs.new ≡ over changed tasks.now jobs.old }
 {
+    // After `iter_mut().zip(tasks)` nothing is known of the jobs.
     for (i, job) in jobs.iter_mut().enumerate() {
         if let Some(task) = tasks.get(i) {
             *job = change(task, *job);

@@ -17,6 +17,7 @@ use task_table::task::Task;
 pub fn best<F: Figure>(by: &F, mode: Mode, tasks: &[Task], jobs: &[Job]) -> Option<Best>
     ensures { result ≡ best_of (F.Figure.figured by.now mode) 0 tasks.now jobs.now }
 {
+    // The check does not follow `min_by_key` over a zip.
     let mut best: Option<Best> = None;
     for (i, (task, job)) in tasks.iter().zip(jobs).enumerate() {
         let number = i + 1;
