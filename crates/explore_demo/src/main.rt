@@ -6,28 +6,18 @@ use explorer::{Node, Visit};
 use lock_story::{tell_check, tell_end, tell_failing_run};
 use std::io;
 
-// a node before exploring, whatever it holds
-const NODE: Node<Chamber> = Node {
-    state: Chamber {
-        turn: 0,
-        boat: None,
-        pause: 0,
-    },
-    visit: 0,
-    opened: false,
-};
-
-// a visit before exploring, whatever it holds
-const VISIT: Visit = Visit {
-    parent: 0,
-    event: 0,
+// a chamber before exploring, whatever it holds
+const CHAMBER: Chamber = Chamber {
+    turn: 0,
+    boat: None,
+    pause: 0,
 };
 
 // A lock that is slow, but boats come seldom enough.
 fn show_safe(rt: &impl Print, lock: &Lock) -> io::Result<()> {
     println!(rt; "== A slow lock where boats come seldom ==")?;
-    let mut nodes = [NODE; 64];
-    let mut visits = [VISIT; 128];
+    let mut nodes = [Node::unused(CHAMBER); 64];
+    let mut visits = [Visit::START; 128];
     tell_check(rt, lock, &mut nodes, &mut visits)?;
     Ok(())
 }
@@ -35,8 +25,8 @@ fn show_safe(rt: &impl Print, lock: &Lock) -> io::Result<()> {
 // The same lock where boats may follow each other sooner, and the run that shows it unsafe.
 fn show_unsafe(rt: &impl Print, lock: &Lock) -> io::Result<()> {
     println!(rt; "== The same lock where boats come sooner ==")?;
-    let mut nodes = [NODE; 64];
-    let mut visits = [VISIT; 128];
+    let mut nodes = [Node::unused(CHAMBER); 64];
+    let mut visits = [Visit::START; 128];
     let finding = tell_check(rt, lock, &mut nodes, &mut visits)?;
     let _ = tell_failing_run(rt, lock, &visits, finding.visits)?;
     Ok(())
@@ -45,10 +35,10 @@ fn show_unsafe(rt: &impl Print, lock: &Lock) -> io::Result<()> {
 // The ends that decide nothing, as the memory is too small or too large.
 fn show_ends(rt: &impl Print, lock: &Lock) -> io::Result<()> {
     println!(rt; "== The first lock with other memory ==")?;
-    tell_end(rt, lock, &mut [NODE; 4], &mut [VISIT; 128])?;
-    tell_end(rt, lock, &mut [NODE; 64], &mut [VISIT; 5])?;
-    tell_end(rt, lock, &mut [NODE; 4097], &mut [VISIT; 128])?;
-    tell_end(rt, lock, &mut [NODE; 7], &mut [VISIT; 7])?;
+    tell_end(rt, lock, &mut [Node::unused(CHAMBER); 4], &mut [Visit::START; 128])?;
+    tell_end(rt, lock, &mut [Node::unused(CHAMBER); 64], &mut [Visit::START; 5])?;
+    tell_end(rt, lock, &mut [Node::unused(CHAMBER); 4097], &mut [Visit::START; 128])?;
+    tell_end(rt, lock, &mut [Node::unused(CHAMBER); 7], &mut [Visit::START; 7])?;
     Ok(())
 }
 
