@@ -48,17 +48,8 @@ fn judged(
     system: &System<'_>,
     bounds: &CheckBounds,
 ) -> Result<TaskJudgement, AllocError> {
-    let node = Node {
-        state: system.first(),
-        visit: 0,
-        opened: false,
-    };
-    let visit = Visit {
-        parent: 0,
-        event: 0,
-    };
-    let mut nodes = vec![in heap; node; bounds.nodes]?;
-    let mut visits = vec![in heap; visit; bounds.visits]?;
+    let mut nodes = vec![in heap; Node::unused(system.first()); bounds.nodes]?;
+    let mut visits = vec![in heap; Visit::START; bounds.visits]?;
     let kind = system.settings.kind;
     judge_tasks(
         heap,

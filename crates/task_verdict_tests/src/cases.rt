@@ -27,10 +27,7 @@ fn table_of(heap: Global, rows: &str) -> Result<TaskTable, Fail> {
     for byte in rows.bytes() {
         bytes.push(if byte == b'|' { b'\n' } else { byte })?;
     }
-    match read_table(heap, &bytes) {
-        Ok(table) => Ok(table),
-        Err(_) => Err(Fail::new("no table")),
-    }
+    read_table(heap, &bytes).map_err(|_| Fail::new("no table"))
 }
 
 fn kind_named(word: &str) -> Option<Kind> {
@@ -54,29 +51,21 @@ fn question(words: &str) -> Result<Asked, Fail> {
     let layers = words.next().ok_or("the layers are missing")?;
     let nodes = number(&mut words)?;
     let visits = number(&mut words)?;
-    match (kind_named(kind), policy_named(order, layers)) {
-        (Some(kind), Some(policy)) => Ok(Asked {
-            kind,
-            policy,
-            nodes,
-            visits,
-        }),
-        _ => Err(Fail::new("no such kind or policy")),
-    }
+    Ok(Asked {
+        kind: kind_named(kind).ok_or("no such kind")?,
+        policy: policy_named(order, layers).ok_or("no such policy")?,
+        nodes,
+        visits,
+    })
 }
 
 fn judged(heap: Global, table: &TaskTable, asked: Asked) -> Result<TaskJudgement, Fail> {
     let state = State::first(asked.kind, table.tasks());
-    let node = Node {
-        state,
-        visit: 0,
-        opened: false,
-    };
     let visit = Visit {
         parent: 9,
         event: 9,
     };
-    let mut nodes = vec![in heap; node; asked.nodes]?;
+    let mut nodes = vec![in heap; Node::unused(state); asked.nodes]?;
     let mut visits = vec![in heap; visit; asked.visits]?;
     let judgement = judge_tasks(
         heap,
