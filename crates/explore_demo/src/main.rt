@@ -35,10 +35,11 @@ fn show_unsafe(rt: &impl Print, lock: &Lock) -> io::Result<()> {
 // The ends that decide nothing, as the memory is too small or too large.
 fn show_ends(rt: &impl Print, lock: &Lock) -> io::Result<()> {
     println!(rt; "== The first lock with other memory ==")?;
-    tell_end(rt, lock, &mut [Node::unused(CHAMBER); 4], &mut [Visit::START; 128])?;
-    tell_end(rt, lock, &mut [Node::unused(CHAMBER); 64], &mut [Visit::START; 5])?;
-    tell_end(rt, lock, &mut [Node::unused(CHAMBER); 4097], &mut [Visit::START; 128])?;
-    tell_end(rt, lock, &mut [Node::unused(CHAMBER); 7], &mut [Visit::START; 7])?;
+    let node = Node::unused(CHAMBER);
+    tell_end(rt, lock, &mut [node; 4], &mut [Visit::START; 128])?;
+    tell_end(rt, lock, &mut [node; 64], &mut [Visit::START; 5])?;
+    tell_end(rt, lock, &mut [node; 4097], &mut [Visit::START; 128])?;
+    tell_end(rt, lock, &mut [node; 7], &mut [Visit::START; 7])?;
     Ok(())
 }
 
