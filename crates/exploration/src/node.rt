@@ -23,6 +23,7 @@ impl<T> Node<T> {
 }
 
 // The visit that a state was entered from, or 0 for the first one, and the event that led on from there.
+// Plain numbers, and no Option: visits may come from anywhere, and tracing refuses a start that has an event.
 #[derive(Clone, Copy, Debug, PartialEq, Eq)]
 pub struct Visit {
     pub parent: usize,

@@ -1,6 +1,7 @@
 // What a check of a lock finds.
 use explorer::Outcome;
 
+// An enum beside `Outcome`: who checks a lock reads of boats.
 #[derive(Clone, Copy, Debug, PartialEq, Eq)]
 pub enum Verdict {
     // no boat is ever overdue

@@ -16,7 +16,8 @@ use std::io;
 use tracing::trace;
 use transition::{Run, System};
 
-// no more forced events than this lead from a doomed chamber to an overdue boat
+// No more forced events than this lead from a doomed chamber to an overdue boat: a bound for the loop, which is asked of
+// chambers that are not doomed too.
 const MOST_FORCED: u16 = 1151;
 
 // Checks the lock, and tells its figures, the verdict, and how many chambers are kept and visited.

@@ -1,5 +1,5 @@
 // 'pethongu check': whether a run of the table is ever late, and why.
-use crate::system::System;
+use crate::setup::Setup;
 use crate::trouble::Trouble;
 use command_options::settings::Settings;
 use command_reading::bounds::CheckBounds;
@@ -18,16 +18,16 @@ pub(crate) fn check_table<'a>(
     settings: &Settings,
     bounds: &CheckBounds,
 ) -> Result<ExitCode, Trouble<'a>> {
-    let system = System::read(rt, source, settings)?;
+    let setup = Setup::read(rt, source, settings)?;
     if !settings.porcelain && !bounds.quiet {
         tell_start(rt, bounds)?;
     }
-    let judgement = judged(rt.alloc(), &system, bounds)?;
+    let judgement = judged(rt.alloc(), &setup, bounds)?;
     if settings.porcelain {
-        print_answer(rt, &system, &judgement)?;
+        print_answer(rt, &setup, &judgement)?;
     } else {
-        system.print_head(rt)?;
-        tell_judgement(rt, &system, bounds, &judgement)?;
+        setup.print_head(rt)?;
+        tell_judgement(rt, &setup, bounds, &judgement)?;
     }
     match judgement.verdict {
         TaskVerdict::Schedulable => Ok(ExitCode::SUCCESS),
@@ -45,17 +45,17 @@ fn tell_start(rt: &HostRuntime, bounds: &CheckBounds) -> io::Result<()> {
 
 fn judged(
     heap: Global,
-    system: &System<'_>,
+    setup: &Setup<'_>,
     bounds: &CheckBounds,
 ) -> Result<TaskJudgement, AllocError> {
-    let mut nodes = vec![in heap; Node::unused(system.first()); bounds.nodes]?;
+    let mut nodes = vec![in heap; Node::unused(setup.first()); bounds.nodes]?;
     let mut visits = vec![in heap; Visit::START; bounds.visits]?;
-    let kind = system.settings.kind;
+    let kind = setup.settings.kind;
     judge_tasks(
         heap,
         kind,
-        &system.table,
-        system.policy,
+        &setup.table,
+        setup.policy,
         &mut nodes,
         &mut visits,
     )
@@ -64,12 +64,12 @@ fn judged(
 // The lines for scripts.
 fn print_answer(
     rt: &HostRuntime,
-    system: &System<'_>,
+    setup: &Setup<'_>,
     judgement: &TaskJudgement,
 ) -> Result<(), Trouble<'static>> {
     println!(rt; "{}", AnswerLine(judgement))?;
     if let TaskVerdict::Unschedulable(late) = &judgement.verdict {
-        let numbers = late_tasks(rt.alloc(), &system.table, &late.state)?;
+        let numbers = late_tasks(rt.alloc(), &setup.table, &late.state)?;
         print_numbers(rt, "trace", &late.events)?;
         print_numbers(rt, "forced", &late.forced)?;
         print_numbers(rt, "late", &numbers)?;
@@ -88,7 +88,7 @@ fn print_numbers<T: fmt::Display>(
 // The verdict with its grounds, and the failing run where there is one.
 fn tell_judgement(
     rt: &HostRuntime,
-    system: &System<'_>,
+    setup: &Setup<'_>,
     bounds: &CheckBounds,
     judgement: &TaskJudgement,
 ) -> Result<(), Trouble<'static>> {
@@ -99,7 +99,7 @@ fn tell_judgement(
     };
     print!(rt; "{grounds}")?;
     if let TaskVerdict::Unschedulable(late) = &judgement.verdict {
-        tell_late_run(rt, system, late)?;
+        tell_late_run(rt, setup, late)?;
     }
     Ok(())
 }
@@ -107,12 +107,12 @@ fn tell_judgement(
 // The failing run, its forced events told apart.
 fn tell_late_run(
     rt: &HostRuntime,
-    system: &System<'_>,
+    setup: &Setup<'_>,
     late: &LateRun,
 ) -> Result<(), Trouble<'static>> {
     let mut events = late.events.clone()?;
     events.extend_from_slice(&late.forced)?;
-    let steps = system.record(rt.alloc(), &events)?;
+    let steps = setup.record(rt.alloc(), &events)?;
     println!(rt; "")?;
-    system.draw_run(rt, &steps, late.events.len())
+    setup.draw_run(rt, &steps, late.events.len())
 }

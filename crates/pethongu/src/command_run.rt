@@ -1,5 +1,5 @@
 // 'pethongu run': events made on a new run of a table.
-use crate::system::System;
+use crate::setup::Setup;
 use crate::trouble::Trouble;
 use command_options::settings::Settings;
 use job_state::State;
@@ -15,24 +15,19 @@ pub(crate) fn run_events<'a>(
     settings: &Settings,
     events: &[u8],
 ) -> Result<(), Trouble<'a>> {
-    let system = System::read(rt, source, settings)?;
-    let steps = system.record(rt.alloc(), events)?;
+    let setup = Setup::read(rt, source, settings)?;
+    let steps = setup.record(rt.alloc(), events)?;
     if settings.porcelain {
-        print_lines(rt, system.table.len(), system.first(), &steps)?;
+        print_lines(rt, setup.table.len(), setup.first(), &steps)?;
     } else {
-        system.print_head(rt)?;
-        system.draw_run(rt, &steps, steps.len())?;
+        setup.print_head(rt)?;
+        setup.draw_run(rt, &steps, steps.len())?;
     }
     Ok(())
 }
 
 // The lines for scripts: the first state, and then one line for each event.
-fn print_lines(
-    rt: &HostRuntime,
-    tasks: usize,
-    first: State,
-    steps: &[TaskStep],
-) -> io::Result<()> {
+fn print_lines(rt: &HostRuntime, tasks: usize, first: State, steps: &[TaskStep]) -> io::Result<()> {
     let state = StateWords {
         tasks,
         state: first,

@@ -2,7 +2,6 @@
 use crate::faulty_file::FaultyFile;
 use crate::source::{name_of, read_source};
 use crate::trouble::Trouble;
-use std::alloc::AllocError;
 use std::io;
 use table_print::loads::Loads;
 use table_print::rows::Rows;
@@ -25,7 +24,7 @@ pub(crate) fn sealed_table<'a>(
             faults,
         }),
         ReadError::TooLong => Trouble::TooLong { name },
-        ReadError::NoMemory => Trouble::NoMemory(AllocError),
+        ReadError::NoMemory => Trouble::NoMemory,
     })
 }
 

@@ -6,8 +6,8 @@ mod command_run;
 mod command_table;
 mod faulty_file;
 mod misuse;
+mod setup;
 mod source;
-mod system;
 mod system_words;
 mod trouble;
 mod usage;
@@ -44,6 +44,7 @@ fn run(rt: &HostRuntime) -> Result<ExitCode, Trouble<'static>> {
     let heap = rt.alloc();
     let given: Vec<String> = env::args(rt)?.skip(1).collect(heap)?;
     let words: Vec<&str> = given.iter().map(|word| word.as_str()).collect(heap)?;
+    // A match, as in `main`: a closure that holds the runtime gets no proof.
     match perform(rt, &words) {
         Ok(status) => Ok(status),
         Err(trouble) => Ok(tell(rt, &trouble)),

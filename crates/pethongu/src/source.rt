@@ -7,7 +7,7 @@ use std::io::Read;
 use table_source::Source;
 use table_text::table::LONGEST;
 
-// One byte more than the longest table is read, so that a longer one is seen to be so.
+// One byte more than the longest table is read, so that a longer one is seen to be so; a constant takes no call.
 const ENOUGH: u64 = LONGEST as u64 + 1;
 
 fn read_enough(heap: Global, from: impl Read + Drop) -> io::Result<Vec<u8>> {

@@ -4,7 +4,7 @@ use crate::misuse::MisuseWords;
 use command_options::named::Named;
 use command_reading::misuse::Misuse;
 use policy_choice::WrongCount;
-use std::alloc::AllocError;
+use std::alloc::{AllocError, AllocFailed};
 use std::io;
 use table_text::table::LONGEST;
 use thiserror::Error;
@@ -24,13 +24,26 @@ pub(crate) enum Trouble<'a> {
     #[error("{0}")]
     Outside(#[from] io::Error),
     #[error("there is no memory left")]
-    NoMemory(#[from(alloc)] AllocError),
+    NoMemory,
+}
+
+// Want of memory is told by readers too, which hold no error of the allocator's.
+impl From<AllocError> for Trouble<'_> {
+    fn from(_e: AllocError) -> Self {
+        Trouble::NoMemory
+    }
+}
+
+impl<T: Drop> From<AllocFailed<T>> for Trouble<'_> {
+    fn from(_e: AllocFailed<T>) -> Self {
+        Trouble::NoMemory
+    }
 }
 
 impl<'a> From<Misuse<'a>> for Trouble<'a> {
     fn from(misuse: Misuse<'a>) -> Trouble<'a> {
         match misuse {
-            Misuse::NoMemory => Trouble::NoMemory(AllocError),
+            Misuse::NoMemory => Trouble::NoMemory,
             _ => Trouble::Misused(MisuseWords(misuse)),
         }
     }

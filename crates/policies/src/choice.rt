@@ -5,7 +5,7 @@ use crate::high_first::HighFirst;
 use crate::orders::{EarliestDeadline, FixedOrder, LeastLaxity};
 use crate::shortened::Shortened;
 
-// The figure that is gone by.
+// The figure that is gone by. An enum, and no `dyn Policy`: it is `Copy`, and its meaning is told case by case.
 #[derive(Clone, Copy, Debug)]
 pub enum Order {
     FixedOrder(FixedOrder),

@@ -8,6 +8,7 @@ use task_table::mode::Mode;
 use task_table::task::Task;
 
 // The least figure comes first; a job without a figure is passed over.
+// A trait, and no closure: policies hold their figure by value, and contracts speak of its meaning.
 pub trait Figure {
     ghost figured: { Self → Mode → Figured };
 

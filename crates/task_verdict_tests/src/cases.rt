@@ -38,6 +38,7 @@ fn kind_named(word: &str) -> Option<Kind> {
     }
 }
 
+// Three lines, as in other tests: a crate for them would be longer.
 fn number(words: &mut SplitWhitespace<'_>) -> Result<usize, Fail> {
     let word = words.next().ok_or("a number is missing")?;
     Ok(word.parse::<usize>()?)

@@ -33,7 +33,7 @@ const TRACES: &str = "1 0 : : 0,0
 3 15 : : 0,0 1,1 2,2
 3 14 : : 0,0 1,11 2,2";
 
-// The next word as a number.
+// The next word as a number: three lines, as in other tests, since a crate for them would be longer.
 fn number(words: &mut SplitWhitespace<'_>) -> Result<usize, Fail> {
     let word = words.next().ok_or("a word is missing")?;
     Ok(word.parse::<usize>()?)

@@ -46,6 +46,7 @@ const TOO_LARGE: &str = "\
 not explored (10): at most 4096 nodes and 65535 visits can be lent; ask for fewer
 with --nodes and --visits";
 
+// What is full is told in two texts: one with the words of both left open would be harder to read.
 impl Grounds<'_> {
     fn visits_full<W: fmt::Write>(&self, f: &mut fmt::Formatter<W>) -> fmt::Result {
         let lent = self.lent_visits;

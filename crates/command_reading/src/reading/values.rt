@@ -42,6 +42,7 @@ fn number_given<'a>(key: Key, word: &'a str) -> Result<usize, Misuse<'a>>
     ensures { Says (λ n. n) (number_given key word.now) result }
 {
     let value = value_within(word.as_bytes(), MOST).ok_or(Misuse::BadValue { option: key, word })?;
+    // By `as`: there is no From that makes a usize of a u32.
     Ok(value as usize)
 }
 

@@ -9,6 +9,7 @@ use crate::state::State;
 use jobs::Kind;
 use task_table::task::Task;
 
+// The kind and the tasks are asked apart: `is_late` and `is_doomed` look at the tasks alone.
 impl State {
     // Whether the tasks can be in this state.
     #[tactic(auto, unfolding(crate::specs::States::fits))]

@@ -5,6 +5,7 @@ ghost use Rattle.task_laws.specs.Systems.{by_doom, forced_by, forced};
 
 use crate::releases::Releases;
 use crate::system::TaskSystem;
+use crate::system::events::{FINISHING_TICK, TICK};
 use job_state::State;
 use jobs::JobRefusal;
 use jobs::figures::{time_to_deadline, worst_laxity};
@@ -57,8 +58,9 @@ fn force_by(due: Option<usize>, picked: Option<usize>, mode: Mode, target: usize
     ensures { result ≡ forced_by due picked mode target }
 {
     match (due, picked, mode) {
+        // At most 8, so that the cast keeps it: there is no From that makes a u8 of a usize.
         (Some(number), _, _) => number as u8,
-        (None, Some(number), Mode::Low) => { if number == target { 9 } else { 10 } }
-        _ => 9,
+        (None, Some(number), Mode::Low) if number != target => FINISHING_TICK,
+        _ => TICK,
     }
 }

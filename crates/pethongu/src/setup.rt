@@ -15,22 +15,22 @@ use task_runs::{TaskStep, list_ticks, record_run};
 use task_table::table::TaskTable;
 
 #[derive(Drop)]
-pub(crate) struct System<'a> {
+pub(crate) struct Setup<'a> {
     pub(crate) table: TaskTable,
     pub(crate) policy: Choice,
     pub(crate) settings: &'a Settings,
 }
 
-impl<'a> System<'a> {
+impl<'a> Setup<'a> {
     // The table of the source, under the policy that the settings choose for it.
     pub(crate) fn read<'b>(
         rt: &HostRuntime,
         source: Source<'b>,
         settings: &'a Settings,
-    ) -> Result<System<'a>, Trouble<'b>> {
+    ) -> Result<Setup<'a>, Trouble<'b>> {
         let table = sealed_table(rt, source)?;
         let policy = choose_policy(settings, table.len())?;
-        Ok(System {
+        Ok(Setup {
             table,
             policy,
             settings,
@@ -42,11 +42,7 @@ impl<'a> System<'a> {
     }
 
     // The events made on a new run.
-    pub(crate) fn record(
-        &self,
-        heap: Global,
-        events: &[u8],
-    ) -> Result<Vec<TaskStep>, AllocError> {
+    pub(crate) fn record(&self, heap: Global, events: &[u8]) -> Result<Vec<TaskStep>, AllocError> {
         record_run(heap, self.settings.kind, &self.table, &self.policy, events)
     }
 
