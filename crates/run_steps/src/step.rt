@@ -2,7 +2,7 @@
 ghost use Rattle.std.specs.Prelude.{◌≡◌};
 ghost use Rattle.transition.specs.Runs.{told as told_by};
 
-use numbered_refusals::Numbered;
+use numbered_refusals::{Numbered, told};
 use transition::Refusal;
 
 // The event, what the run answered, and the state after it.
@@ -18,9 +18,6 @@ impl<T, R: Numbered> Step<T, R> {
     pub fn told(&self) -> u8
         ensures { result ≡ told_by R.number self.now.answer }
     {
-        match &self.answer {
-            Ok(()) => 0,
-            Err(refusal) => refusal.number(),
-        }
+        told(&self.answer)
     }
 }

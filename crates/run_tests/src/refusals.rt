@@ -1,18 +1,10 @@
 // What a run and the lock refuse, and in which order.
 use crate::words::{byte, chamber};
-use canal_lock::{Lock, LockRefusal};
-use numbered_refusals::Numbered;
+use canal_lock::Lock;
+use numbered_refusals::told;
 use std::process::Abort;
 use std::test::Fail;
-use transition::{Refusal, Run, System};
-
-// What is refused, by its number, or 0 where it is accepted.
-fn told<T: Copy>(answer: Result<T, Refusal<LockRefusal>>) -> u8 {
-    match answer {
-        Ok(_) => 0,
-        Err(refusal) => refusal.number(),
-    }
-}
+use transition::{Run, System};
 
 // events of one run of a lock that is ready again after 5 ticks, with a gap of 2 and a patience of 4: what is
 // answered, and then what a forced event is refused by
@@ -37,9 +29,9 @@ const RUN: &str = "9 4 16
 // Makes the event of one line, and compares the answers.
 fn answers_so(rt: &impl Abort, run: &mut Run<Lock>, line: &str) -> Result<(), Fail> {
     let mut words = line.split_whitespace();
-    let answer = told(run.call(byte(&mut words)?));
+    let answer = told(&run.call(byte(&mut words)?));
     assert_eq!(rt; answer, byte(&mut words)?, "{line}");
-    assert_eq!(rt; told(run.forced()), byte(&mut words)?, "{line}");
+    assert_eq!(rt; told(&run.forced()), byte(&mut words)?, "{line}");
     Ok(())
 }
 
@@ -70,9 +62,13 @@ fn refuses_so(rt: &impl Abort, lock: &Lock, line: &str) -> Result<(), Fail> {
     let mut words = line.split_whitespace();
     let state = chamber(&mut words)?;
     let event = byte(&mut words)?;
-    assert_eq!(rt; told(lock.next(&state, event)), byte(&mut words)?, "{line}");
     assert_eq!(rt;
-        told(lock.forced_event(&state)),
+        told(&lock.next(&state, event)),
+        byte(&mut words)?,
+        "{line}"
+    );
+    assert_eq!(rt;
+        told(&lock.forced_event(&state)),
         byte(&mut words)?,
         "{line}"
     );

@@ -5,12 +5,12 @@
 ghost use Rattle.std.specs.Prelude.{◌≡◌, length, MatchResult};
 ghost use Rattle.task_table.specs.Tables.{tasks_of};
 
-use numbered_refusals::Numbered;
+use numbered_refusals::told;
 use policies::EarliestDeadline;
 use policies::least::Least;
 use policies::orders::Deadline;
 use std::io;
-use task_systems::Sporadic;
+use task_systems::{Sporadic, TICK};
 use task_table::draft::Draft;
 use task_table::refusal::DraftRefusal;
 use task_table::table::TaskTable;
@@ -60,11 +60,8 @@ fn tell_first_tick(rt: &HostRuntime) -> io::Result<()> {
     match pair_system() {
         Ok(system) => {
             let mut run = Run::new(system);
-            let answer = match run.call(9) {
-                Ok(()) => 0,
-                Err(refusal) => refusal.number(),
-            };
-            println!(rt; "the first tick is answered {answer}")
+            let answer = run.call(TICK);
+            println!(rt; "the first tick is answered {}", told(&answer))
         }
         Err(refusal) => println!(rt; "{refusal}"),
     }

@@ -1,6 +1,6 @@
 // Which tasks a draft takes, and what a table asks of the processor.
 use crate::cases::parts;
-use numbered_refusals::Numbered;
+use numbered_refusals::told;
 use std::alloc::Global;
 use std::process::Abort;
 use std::test::Fail;
@@ -8,7 +8,6 @@ use table_text::line::read_task;
 use task_load::load::load;
 use task_table::draft::Draft;
 use task_table::mode::Mode;
-use task_table::refusal::DraftRefusal;
 use task_table::task::Task;
 
 // A line with a task, and the number that adding it is answered with.
@@ -31,17 +30,12 @@ fn task_of(line: &str) -> Result<Task, Fail> {
     Ok(read_task(line.as_bytes())?.ok_or("no task")?)
 }
 
-// The number by which the answer is told, or 0 where the task was taken.
-fn answer(added: Result<(), DraftRefusal>) -> u8 {
-    added.err().map_or(0, |refusal| refusal.number())
-}
-
 #[test]
 fn rows(rt: HostRuntime) -> Result<(), Fail> {
     for row in ROWS.lines() {
         let (line, wanted) = parts(row)?;
         let mut draft = Draft::new();
-        let got = answer(draft.add(task_of(line)?));
+        let got = told(&draft.add(task_of(line)?));
         assert_eq!(rt; got, wanted.parse::<u8>()?, "{}", row);
     }
     Ok(())
@@ -53,10 +47,10 @@ fn ninth_task(rt: HostRuntime) -> Result<(), Fail> {
     let wrong = task_of("L 2 3 1 1 0")?;
     let mut draft = Draft::new();
     for _ in 0..8 {
-        assert_eq!(rt; answer(draft.add(right)), 0);
+        assert_eq!(rt; told(&draft.add(right)), 0);
     }
-    assert_eq!(rt; answer(draft.add(right)), 1, "a ninth right task");
-    assert_eq!(rt; answer(draft.add(wrong)), 1, "a ninth wrong task");
+    assert_eq!(rt; told(&draft.add(right)), 1, "a ninth right task");
+    assert_eq!(rt; told(&draft.add(wrong)), 1, "a ninth wrong task");
     let table = draft.seal();
     assert_eq!(rt; table.len(), 8);
     assert!(rt; table.task(0).is_none() && table.task(9).is_none());
@@ -77,7 +71,7 @@ fn loads(rt: &impl Abort, heap: Global, tasks: &str) -> Result<String, Fail> {
     let mut draft = Draft::new();
     for line in tasks.split(';') {
         if let Some(task) = read_task(line.as_bytes())? {
-            assert_eq!(rt; answer(draft.add(task)), 0);
+            assert_eq!(rt; told(&draft.add(task)), 0);
         }
     }
     let table = draft.seal();

@@ -1,5 +1,6 @@
 -- Runs: lists of event numbers made from a state on.
 use Rattle.std.specs.Prelude.{◌≡◌, ℕ, zero, suc, List, [], ◌∷◌, Some, None, Ok, Err, Option, Result}
+use Rattle.numbered_refusals.specs.Answers.{told as told_by}
 use Rattle.transition.specs.declared.refusal.Refusal.{Refusal}
 use Rattle.transition.specs.Refusals.{number}
 use Rattle.transition.specs.Meanings.{Meaning}
@@ -16,8 +17,7 @@ answered (Err r) = Err r
 
 -- 0 where the event is accepted, else the refusal's number
 abbrev pub told : {X R : Type 0} → (R → ℕ) → Result X (Refusal R) → ℕ
-told own (Ok y) = 0
-told own (Err r) = number own r
+told own = told_by (number own)
 
 -- what goes on from an accepted result
 abbrev pub onward : {X Y E : Type 0} → Result X E → (X → Option Y) → Option Y
