@@ -22,6 +22,15 @@ pub struct Chamber {
     pub pause: u8,
 }
 
+impl Chamber {
+    // Ready, and without boats.
+    pub const CALM: Chamber = Chamber {
+        turn: 0,
+        boat: None,
+        pause: 0,
+    };
+}
+
 impl Lock {
     pub fn new(fill: u8, gap: u8, patience: u8) -> Self
         ensures fill { result.fill ≡ fill }

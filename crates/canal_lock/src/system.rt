@@ -8,10 +8,10 @@ use crate::lock::{Chamber, Lock};
 use crate::refusal::LockRefusal;
 use transition::{Refusal, System};
 
-// the event that a boat comes
+// The event that a boat comes.
 pub const COMES: u8 = 1;
 
-// the event that one tick of time goes by
+// The event that one tick of time goes by.
 pub const TICK: u8 = 2;
 
 impl System for Lock {
@@ -30,11 +30,7 @@ impl System for Lock {
     }
 
     fn first(&self) -> Chamber {
-        Chamber {
-            turn: 0,
-            boat: None,
-            pause: 0,
-        }
+        Chamber::CALM
     }
 
     fn fits(&self, state: &Chamber) -> bool {

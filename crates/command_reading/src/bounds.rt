@@ -16,6 +16,7 @@ impl CheckBounds {
         ensures { bounds_in result ≡ unbounded }
     {
         CheckBounds {
+            // The most that exploring takes, written out: reading words does not stand on exploring.
             nodes: 4096,
             visits: 65535,
             require_schedulable: false,

@@ -1,4 +1,4 @@
-// The words behind a command, taken up one by one.
+// What was read of the words so far.
 mod values;
 
 use crate::bounds::CheckBounds;

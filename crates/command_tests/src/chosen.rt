@@ -28,16 +28,18 @@ fn order_told(order: Order) -> &'static str {
     }
 }
 
-fn told(choice: Choice) -> &'static str {
-    match choice {
-        Choice::Plain(order) => order_told(order),
-        Choice::HighFirst(_) => "deadline, high first",
-        Choice::Shortened(_) => "deadline, shortened",
-        Choice::HighFirstShortened(_) => "deadline, high first, shortened",
-    }
+fn told(heap: Global, choice: Choice) -> Result<String, Fail> {
+    let (order, layers) = match choice {
+        Choice::Plain(order) => (order, ""),
+        Choice::HighFirst(layer) => (layer.below, ", high first"),
+        Choice::Shortened(layer) => (layer.below, ", shortened"),
+        Choice::HighFirstShortened(layer) => (layer.below.below, ", high first, shortened"),
+    };
+    let order = order_told(order);
+    Ok(format!(in heap; "{order}{layers}")?)
 }
 
-fn chosen(heap: Global, case: &str) -> Result<&'static str, Fail> {
+fn chosen(heap: Global, case: &str) -> Result<String, Fail> {
     let (tasks, options) = case.split_once(" ").ok_or("no count")?;
     let mut words = vec![in heap; "run", "--events", "1"]?;
     words.extend(options.split_whitespace())?;
@@ -45,8 +47,8 @@ fn chosen(heap: Global, case: &str) -> Result<&'static str, Fail> {
         return Err(Fail::new("no run"));
     };
     match choose_policy(&settings, tasks.parse::<usize>()?) {
-        Ok(choice) => Ok(told(choice)),
-        Err(_) => Ok("refused"),
+        Ok(choice) => told(heap, choice),
+        Err(_) => Ok(format!(in heap; "refused")?),
     }
 }
 
@@ -54,7 +56,7 @@ fn chosen(heap: Global, case: &str) -> Result<&'static str, Fail> {
 fn chosen_so(rt: HostRuntime) -> Result<(), Fail> {
     for case in CHOSEN.lines() {
         let (asked, wanted) = case.split_once(" => ").ok_or("no arrow")?;
-        assert_eq!(rt; chosen(rt.alloc(), asked)?, wanted, "{}", case);
+        assert_eq!(rt; chosen(rt.alloc(), asked)?.as_str(), wanted, "{}", case);
     }
     Ok(())
 }

@@ -6,17 +6,10 @@ use explorer::{Node, Visit};
 use lock_story::{tell_check, tell_end, tell_failing_run};
 use std::io;
 
-// a chamber before exploring, whatever it holds
-const CHAMBER: Chamber = Chamber {
-    turn: 0,
-    boat: None,
-    pause: 0,
-};
-
 // A lock that is slow, but boats come seldom enough.
 fn show_safe(rt: &impl Print, lock: &Lock) -> io::Result<()> {
     println!(rt; "== A slow lock where boats come seldom ==")?;
-    let mut nodes = [Node::unused(CHAMBER); 64];
+    let mut nodes = [Node::unused(Chamber::CALM); 64];
     let mut visits = [Visit::START; 128];
     tell_check(rt, lock, &mut nodes, &mut visits)?;
     Ok(())
@@ -25,7 +18,7 @@ fn show_safe(rt: &impl Print, lock: &Lock) -> io::Result<()> {
 // The same lock where boats may follow each other sooner, and the run that shows it unsafe.
 fn show_unsafe(rt: &impl Print, lock: &Lock) -> io::Result<()> {
     println!(rt; "== The same lock where boats come sooner ==")?;
-    let mut nodes = [Node::unused(CHAMBER); 64];
+    let mut nodes = [Node::unused(Chamber::CALM); 64];
     let mut visits = [Visit::START; 128];
     let finding = tell_check(rt, lock, &mut nodes, &mut visits)?;
     let _ = tell_failing_run(rt, lock, &visits, finding.visits)?;
@@ -35,7 +28,7 @@ fn show_unsafe(rt: &impl Print, lock: &Lock) -> io::Result<()> {
 // The ends that decide nothing, as the memory is too small or too large.
 fn show_ends(rt: &impl Print, lock: &Lock) -> io::Result<()> {
     println!(rt; "== The first lock with other memory ==")?;
-    let node = Node::unused(CHAMBER);
+    let node = Node::unused(Chamber::CALM);
     tell_end(rt, lock, &mut [node; 4], &mut [Visit::START; 128])?;
     tell_end(rt, lock, &mut [node; 64], &mut [Visit::START; 5])?;
     tell_end(rt, lock, &mut [node; 4097], &mut [Visit::START; 128])?;

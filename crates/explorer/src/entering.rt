@@ -9,7 +9,8 @@ use exploration::{Node, Outcome, Visit};
 use transition::System;
 
 impl<T: Copy> Memory<'_, T> {
-    // Enters a state that came from the parent's visit by the event, and answers an outcome where exploring is over.
+    // Enters a state that came about as `from` tells, and answers an outcome where exploring is over:
+    // an Option, and no Result, since an outcome is an end and no error.
     pub(crate) fn enter<S: System<State = T>>(
         &mut self,
         system: &S,

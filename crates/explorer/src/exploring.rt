@@ -10,13 +10,14 @@ use crate::memory::Memory;
 use exploration::{Node, Outcome, Visit};
 use transition::System;
 
-// the most nodes that may be lent
-const MOST_NODES: usize = 4096;
+// The most nodes that may be lent.
+pub const MOST_NODES: usize = 4096;
 
-// the most visits that may be lent
-const MOST_VISITS: usize = 65535;
+// The most visits that may be lent.
+pub const MOST_VISITS: usize = 65535;
 
 // Explores the system within the lent memory, and answers the outcome, how many nodes it leaves and how many visits.
+// The nodes and visits are two slices that the caller lends and keeps.
 pub fn explore<S: System>(
     system: &S,
     nodes: &mut [Node<S::State>],
@@ -43,7 +44,7 @@ pub fn explore<S: System>(
     explore_lent(system, nodes, visits)
 }
 
-// Explores the system in lent memory that is not too large, none of it in use.
+// Explores the system in lent memory, none of which is in use.
 fn explore_lent<S: System>(
     system: &S,
     nodes: &mut [Node<S::State>],
@@ -72,13 +73,15 @@ impl<T: Copy> Memory<'_, T> {
         ensures same_visits { self.new.visits.ghost_name ≡ self.old.visits.ghost_name }
         ensures lent { Extends self.old self.new }
     {
+        // A match: both ways go on with the memory, which a closure would have to borrow.
         match self.enter(system, Visit::START, system.first()) {
             Some(outcome) => outcome,
             None => self.open_all(system),
         }
     }
 
-    // Opens the nodes one after another, and enters what their events lead to, until exploring is over.
+    // Opens the nodes one after another, and enters what their events lead to, until exploring is over:
+    // nested loops, a turn for each node and in it a sweep over its events, left by a label.
     fn open_all<S: System<State = T>>(&mut self, system: &S) -> Outcome
         ensures ends { ComesTo (λ es. rest (S.System.meaning system.now) (length self.old.nodes.now) (length self.old.visits.now) (holds self.old es)) (λ es. over result (holds self.new es)) }
         ensures lent { Extends self.old self.new }

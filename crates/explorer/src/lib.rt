@@ -7,4 +7,4 @@ mod exploring;
 mod memory;
 
 pub use exploration::{Node, Outcome, Visit};
-pub use exploring::explore;
+pub use exploring::{MOST_NODES, MOST_VISITS, explore};

@@ -3,7 +3,7 @@ ghost use Rattle.std.specs.Prelude.{◌≤◌, length};
 
 use exploration::{Node, Visit};
 
-// The lent nodes and visits, and how many of each are in use.
+// The lent nodes and visits, and how many of each are in use: slices with counts, and no Vec, as the caller lends them.
 #[derive(Drop)]
 pub(crate) struct Memory<'a, T> {
     pub nodes: &'a mut [Node<T>],

@@ -17,6 +17,7 @@ fn make(rt: &impl Abort, figures: &str, run: &mut Run<Lock>, events: &[u8]) {
 
 // Makes the forced events until there is none, and answers how many there were.
 fn make_forced(rt: &impl Abort, figures: &str, run: &mut Run<Lock>) -> Result<u16, Fail> {
+    // one more than the most forced events
     for made in 0..1152 {
         match run.forced() {
             Ok(event) => assert_eq!(rt; run.call(event), Ok(()), "{figures}"),

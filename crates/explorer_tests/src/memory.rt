@@ -5,15 +5,10 @@ use std::alloc::{AllocError, Global};
 
 // So many nodes, with nothing of note in them.
 pub(crate) fn lent_nodes(heap: Global, count: usize) -> Result<Vec<Node<Chamber>>, AllocError> {
-    let state = Chamber {
-        turn: 0,
-        boat: None,
-        pause: 0,
-    };
-    vec![in heap; Node::unused(state); count]
+    vec![in heap; Node::unused(Chamber::CALM); count]
 }
 
-// So many visits, with nothing of note in them.
+// So many visits: not START, as exploring is to look at no visit that it did not write.
 pub(crate) fn lent_visits(heap: Global, count: usize) -> Result<Vec<Visit>, AllocError> {
     let visit = Visit {
         parent: 9,

@@ -4,7 +4,7 @@ use std::num::ParseIntError;
 use std::str::{FromStr, SplitWhitespace};
 use std::test::Fail;
 
-// The next word as a number.
+// The next word as a number: three lines, as in other tests, since a crate for them would be longer.
 pub(crate) fn number<N: FromStr<Err = ParseIntError>>(
     words: &mut SplitWhitespace<'_>,
 ) -> Result<N, Fail> {

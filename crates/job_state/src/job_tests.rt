@@ -1,4 +1,5 @@
 // Tests and changes of jobs by their tasks.
+// Tasks and jobs are two slices: a table keeps its tasks for good, and states, which are many, hold the jobs alone.
 ghost use Rattle.std.specs.Prelude.{◌≡◌, Bool, Option};
 ghost use Rattle.task_table.specs.declared.task.Task.{Task};
 ghost use Rattle.jobs.specs.declared.job.Job.{Job};
@@ -41,7 +42,7 @@ pub fn every_passes<F: Fn(&Task, Job) -> bool>(test: F, tasks: &[Task], jobs: &[
     requires { F.IsAlwaysCallable test }
     ensures { (passes : Task → Job → Bool) → Answers F.Fn test passes → result ≡ every passes tasks.now jobs.now }
 {
-    // The check does not follow `all` over a zip.
+    // By `enumerate`, and no zip: a job past the tasks must be absent.
     for (i, job) in jobs.iter().enumerate() {
         let passes = match tasks.get(i) {
             Some(task) => test(task, *job),

@@ -35,6 +35,7 @@ impl From<Outcome> for Verdict {
 }
 
 // The verdict, and how many nodes and visits at the front of the lent memory tell of it.
+// No `Judgement`, which holds a late run.
 #[derive(Clone, Copy, Debug, PartialEq, Eq)]
 pub struct Finding {
     pub verdict: Verdict,

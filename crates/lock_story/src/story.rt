@@ -16,8 +16,8 @@ use std::io;
 use tracing::trace;
 use transition::{Run, System};
 
-// No more forced events than this lead from a doomed chamber to an overdue boat: a bound for the loop, which is asked of
-// chambers that are not doomed too.
+// From a doomed chamber no more forced events than this lead to an overdue boat: a `for` over them needs no proof that
+// it ends, as `while let` would.
 const MOST_FORCED: u16 = 1151;
 
 // Checks the lock, and tells its figures, the verdict, and how many chambers are kept and visited.
@@ -116,10 +116,10 @@ fn tell_events(rt: &impl Print, run: &mut Run<Lock>, events: &[u8]) -> io::Resul
 // Makes the forced events until there is none, and tells whether a boat is overdue then.
 fn tell_forced(rt: &impl Print, run: &mut Run<Lock>) -> io::Result<()> {
     for _ in 0..MOST_FORCED {
-        match run.forced() {
-            Ok(event) => tell_event(rt, run, event)?,
-            Err(_) => break,
-        }
+        let Ok(event) = run.forced() else {
+            break;
+        };
+        tell_event(rt, run, event)?;
     }
     if run.is_late() {
         println!(rt; "The boat is overdue, and nothing happens any more:")?;

@@ -17,6 +17,7 @@ pub(crate) fn sealed_table<'a>(
 ) -> Result<TaskTable, Trouble<'a>> {
     let bytes = read_source(rt, source)?;
     let name = name_of(source);
+    // No From: what is told needs the name and the bytes too.
     read_table(rt.alloc(), &bytes).map_err(|e| match e {
         ReadError::Wrong(faults) => Trouble::Faulty(FaultyFile {
             name,

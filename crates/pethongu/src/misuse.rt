@@ -44,6 +44,7 @@ impl fmt::Display for MisuseWords<'_> {
             }
             Misuse::NoEvents => write!(f, "'run' wants --events and their list")?,
             Misuse::RanksNeedFixed => write!(f, "--ranks can only stand with --policy fixed")?,
+            // Not told from here: want of memory is a trouble of its own.
             Misuse::NoMemory => write!(f, "there is no memory left")?,
         }
         write!(f, "\n'pethongu help' tells what can be asked for")

@@ -57,7 +57,7 @@ impl<'a> Setup<'a> {
         &self,
         rt: &HostRuntime,
         steps: &[TaskStep],
-        forced: usize,
+        forced_from: usize,
     ) -> Result<(), Trouble<'static>> {
         let tasks = self.table.tasks();
         let first = self.first();
@@ -67,7 +67,7 @@ impl<'a> Setup<'a> {
             first,
             steps,
             ticks: &ticks,
-            forced,
+            forced_from,
         };
         println!(rt; "{listing}")?;
         let timeline = Timeline {

@@ -27,7 +27,7 @@ pub(crate) enum Trouble<'a> {
     NoMemory,
 }
 
-// Want of memory is told by readers too, which hold no error of the allocator's.
+// By hand: readers tell want of memory without an error of the allocator's.
 impl From<AllocError> for Trouble<'_> {
     fn from(_e: AllocError) -> Self {
         Trouble::NoMemory

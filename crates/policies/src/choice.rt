@@ -13,7 +13,7 @@ pub enum Order {
     LeastLaxity(LeastLaxity),
 }
 
-// The layers over it.
+// The layers over it, an enum for the same reasons.
 #[derive(Clone, Copy, Debug)]
 pub enum Choice {
     Plain(Order),

@@ -12,6 +12,7 @@ use task_table::task::Task;
 pub trait Figure {
     ghost figured: { Self → Mode → Figured };
 
+    // Each part by itself, so that an impl shows by `_` what it does not look at.
     fn figure(&self, mode: Mode, number: usize, task: &Task, wait: u8, left: u8) -> Option<i16>
         ensures { result ≡ figured self.now mode number task.now wait left };
 }

@@ -36,19 +36,8 @@ fn show(tasks: &[Task], state: &State) -> State
     ensures mode { result.mode ≡ state.now.mode }
     ensures jobs { result.jobs ≡ high_first tasks.now state.now.mode state.now.jobs }
 {
-    match state.mode {
-        Mode::Low => show_low(tasks, state),
-        Mode::High => *state,
-    }
-}
-
-#[tactic(auto, unfolding(crate::specs::Layers::high_first))]
-fn show_low(tasks: &[Task], state: &State) -> State
-    ensures mode { result.mode ≡ state.now.mode }
-    ensures jobs { result.jobs ≡ high_first tasks.now Low state.now.jobs }
-{
     let mut shown = *state;
-    if any_passes(is_high_ready, tasks, &state.jobs) {
+    if state.mode == Mode::Low && any_passes(is_high_ready, tasks, &state.jobs) {
         change_all(hide, tasks, &mut shown.jobs);
     }
     shown

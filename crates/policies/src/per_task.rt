@@ -1,4 +1,4 @@
-// A figure for each task.
+// A figure for each task, in an array: a table has room for eight tasks, and policies are `Copy`.
 ghost use Rattle.std.specs.Prelude.{◌≡◌, length};
 
 #[derive(Clone, Copy, Debug, PartialEq, Eq)]

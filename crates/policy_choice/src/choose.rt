@@ -20,6 +20,7 @@ const ROWS: [u8; 8] = [1, 2, 3, 4, 5, 6, 7, 8];
 fn selected_ranks(settings: &Settings, tasks: usize) -> Result<Ranks, WrongCount>
     ensures { Says (λ p. p.figures) (selected_ranks (chosen_in settings.now) tasks) result }
 {
+    // A match: a closure before the question mark is no plainer.
     let figures = match &settings.ranks {
         Some(numbers) => one_each(Key::Ranks, numbers, tasks)?,
         None => ROWS,

@@ -6,7 +6,7 @@ use crate::wrong_count::WrongCount;
 use command_options::options::Key;
 
 // How many tasks a table has at most.
-pub(crate) const MOST: usize = 8;
+const MOST: usize = 8;
 
 // The numbers, with 0 at each place behind them.
 fn padded(numbers: &[u8]) -> [u8; 8]

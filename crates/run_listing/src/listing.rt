@@ -10,14 +10,14 @@ use task_runs::{FINISHING_TICK, TICK, TaskStep, Tick, is_tick};
 use task_table::mode::Mode;
 use task_table::task::Task;
 
-// The steps of a run from its first state on, with its ticks; those from `forced` on are forced events.
+// The steps of a run from its first state on, with its ticks; those from `forced_from` on are forced events.
 #[derive(Drop)]
 pub struct Listing<'a> {
     pub tasks: &'a [Task],
     pub first: State,
     pub steps: &'a [TaskStep],
     pub ticks: &'a [Tick],
-    pub forced: usize,
+    pub forced_from: usize,
 }
 
 impl fmt::Display for Listing<'_> {
@@ -26,6 +26,7 @@ impl fmt::Display for Listing<'_> {
         write_state(f, 0, self.tasks.len(), &self.first)?;
         writeln!(f, "start")?;
         let mut before = self.first;
+        // The clock counts ticks alone, so it is no place that `enumerate` gives.
         let mut clock = 0usize;
         for (i, step) in self.steps.iter().enumerate() {
             let ran = self.ran_at(step, clock);
@@ -33,7 +34,7 @@ impl fmt::Display for Listing<'_> {
                 clock = clock.saturating_add(1);
             }
             write_state(f, clock, self.tasks.len(), &step.state)?;
-            write_event(f, step, ran, i >= self.forced)?;
+            write_event(f, step, ran, i >= self.forced_from)?;
             write_notes(f, self.tasks, &before, &step.state)?;
             writeln!(f, "")?;
             before = step.state;
@@ -73,6 +74,7 @@ fn write_state<W: fmt::Write>(
     let mode = state.mode;
     write!(f, "{clock:>4}  {mode:<4}  ")?;
     for job in state.jobs.iter().take(tasks) {
+        // A text first, since a width pads no JobWord: at most 'r255/255', eight bytes.
         let mut word = ArrayString::<8>::new();
         write!(word, "{}", JobWord(*job))?;
         write!(f, "{word:<10}")?;

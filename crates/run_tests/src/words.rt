@@ -3,7 +3,7 @@ use canal_lock::Chamber;
 use std::str::SplitWhitespace;
 use std::test::Fail;
 
-// The next word as a small number.
+// The next word as a small number: three lines, as in other tests, since a crate for them would be longer.
 pub(crate) fn byte(words: &mut SplitWhitespace<'_>) -> Result<u8, Fail> {
     let word = words.next().ok_or("a word is missing")?;
     Ok(word.parse::<u8>()?)

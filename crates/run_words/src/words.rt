@@ -7,7 +7,7 @@ use jobs::Job;
 use std::fmt;
 use task_table::mode::Mode;
 
-// A mode as scripts read it.
+// A mode as scripts read it, in capitals; its own Display is for people.
 #[derive(Clone, Copy)]
 pub struct ModeWord(pub Mode);
 

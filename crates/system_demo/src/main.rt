@@ -36,7 +36,7 @@ const PLOTTER: Task = Task {
     offset: 0,
 };
 
-const FIRST: EarliestDeadline = Least { by: Deadline };
+const EARLIEST: EarliestDeadline = Least { by: Deadline };
 
 // Both tasks are right, so neither is refused.
 fn pair() -> Result<TaskTable, DraftRefusal>
@@ -53,7 +53,7 @@ fn pair() -> Result<TaskTable, DraftRefusal>
 fn pair_system() -> Result<Sporadic<EarliestDeadline>, DraftRefusal>
     ensures { MatchResult result (λ s. length (tasks_of s.table) ≡ 2) (λ _. ⊥) }
 {
-    Ok(Sporadic::new(pair()?, FIRST))
+    Ok(Sporadic::new(pair()?, EARLIEST))
 }
 
 fn tell_first_tick(rt: &HostRuntime) -> io::Result<()> {

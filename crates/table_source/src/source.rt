@@ -26,8 +26,5 @@ impl<'a> Source<'a> {
 pub fn is_option(word: &str) -> bool
     ensures { result ≡ is_option word.now }
 {
-    match word.as_bytes() {
-        [first, _, ..] => *first == b'-',
-        _ => false,
-    }
+    matches!(word.as_bytes(), [b'-', _, ..])
 }

@@ -35,7 +35,7 @@ fn rows(rt: HostRuntime) -> Result<(), Fail> {
     for row in ROWS.lines() {
         let (line, wanted) = parts(row)?;
         let mut draft = Draft::new();
-        let got = told(&draft.add(task_of(line)?));
+        let got = told(&draft.add(task_of(line.trim_end())?));
         assert_eq!(rt; got, wanted.parse::<u8>()?, "{}", row);
     }
     Ok(())

@@ -63,7 +63,7 @@ impl Separator {
 #[derive(Drop)]
 pub struct Pieces<'a> {
     separator: Separator,
-    // what stands behind the pieces that were given, until the last one is
+    // what stands behind the pieces given so far, and nothing once the last is given
     rest: Option<&'a [u8]>,
 }
 

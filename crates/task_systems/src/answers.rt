@@ -6,6 +6,7 @@ use job_state::State;
 use jobs::JobRefusal;
 use transition::Refusal;
 
+// A function, and no From: neither type is of this crate.
 pub(crate) fn tell(refusal: JobRefusal) -> Refusal<JobRefusal>
     ensures { result ≡ told refusal }
 {

@@ -1,4 +1,4 @@
-// How the jobs of a system come, told by a type.
+// How the jobs of a system come, told by a type, or by a kind at run time.
 ghost use Rattle.std.specs.Prelude.{◌≡◌};
 ghost use Rattle.jobs.specs.declared.kind.Kind.{Kind};
 ghost use Rattle.jobs.specs.declared.kind.Kind.TheVariants.{Sporadic as sporadic_kind, Periodic as periodic_kind};

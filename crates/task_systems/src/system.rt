@@ -17,6 +17,7 @@ use policies::Policy;
 use task_table::table::TaskTable;
 use transition::{Refusal, System};
 
+// Named apart: no proof unfolds the trait's constant of a generic type.
 const EVENT_COUNT: u8 = 10;
 
 #[derive(Clone, Copy)]
@@ -27,6 +28,7 @@ pub struct TaskSystem<R, P> {
 }
 
 impl<R, P> TaskSystem<R, P> {
+    // The system in which jobs come as `releases` says.
     pub fn of(releases: R, table: TaskTable, policy: P) -> Self
         ensures releases { result.releases ≡ releases }
         ensures table { result.table ≡ table }

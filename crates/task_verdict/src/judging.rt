@@ -34,7 +34,7 @@ pub fn judge_tasks<P: Policy + Copy>(
     judge_system(heap, &system, nodes, visits)
 }
 
-// Judges a system whose states are those of tasks.
+// Judges a system whose states are those of tasks, with no table in sight.
 fn judge_system<S: System<State = State> + Copy>(
     heap: Global,
     system: &S,

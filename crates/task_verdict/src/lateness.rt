@@ -14,6 +14,7 @@ pub fn late_tasks(heap: Global, table: &TaskTable, state: &State) -> Result<Vec<
     ensures somebody { IfOk result (λ v. late (tasks_of table.now) state.now ≡ true → 0 < length v.items) }
 {
     let mut numbers = Vec::new(heap);
+    // A loop: a chain of `enumerate`, `zip`, `filter`, `map` and `collect` is no shorter.
     for (i, task) in table.tasks().iter().enumerate() {
         if state.jobs[i].is_late(task) {
             numbers.push(i + 1)?;

@@ -23,13 +23,14 @@ struct Asked {
 }
 
 fn table_of(heap: Global, rows: &str) -> Result<TaskTable, Fail> {
-    let mut bytes = Vec::new(heap);
-    for byte in rows.bytes() {
-        bytes.push(if byte == b'|' { b'\n' } else { byte })?;
-    }
+    let lines = rows
+        .bytes()
+        .map(|byte| if byte == b'|' { b'\n' } else { byte });
+    let bytes = lines.collect::<Vec<u8>>(heap)?;
     read_table(heap, &bytes).map_err(|_| Fail::new("no table"))
 }
 
+// Written out, so that tests of verdicts do not stand on words of command lines.
 fn kind_named(word: &str) -> Option<Kind> {
     match word {
         "sporadic" => Some(Kind::Sporadic),
@@ -62,6 +63,7 @@ fn question(words: &str) -> Result<Asked, Fail> {
 
 fn judged(heap: Global, table: &TaskTable, asked: Asked) -> Result<TaskJudgement, Fail> {
     let state = State::first(asked.kind, table.tasks());
+    // Not START: exploring is to look at no visit that it did not write.
     let visit = Visit {
         parent: 9,
         event: 9,

@@ -1,13 +1,14 @@
 // The verdict on tasks in words.
 use std::alloc::Global;
+use std::fmt;
 use std::fmt::Write;
 use std::test::Fail;
 use task_table::table::TaskTable;
 use task_verdict::{LateRun, TaskJudgement, TaskVerdict, late_tasks};
 
-fn tell_events(text: &mut String, events: &[u8]) -> Result<(), Fail> {
-    for event in events {
-        write!(text, " {event}")?;
+fn tell_numbers<T: fmt::Display>(text: &mut String, numbers: &[T]) -> Result<(), Fail> {
+    for number in numbers {
+        write!(text, " {number}")?;
     }
     Ok(())
 }
@@ -15,14 +16,11 @@ fn tell_events(text: &mut String, events: &[u8]) -> Result<(), Fail> {
 // Tells the events, the forced ones, and who is late then.
 fn tell_run(heap: Global, text: &mut String, table: &TaskTable, run: &LateRun) -> Result<(), Fail> {
     text.push_str(" by")?;
-    tell_events(text, &run.events)?;
+    tell_numbers(text, &run.events)?;
     text.push_str(" then")?;
-    tell_events(text, &run.forced)?;
+    tell_numbers(text, &run.forced)?;
     text.push_str(" late")?;
-    for number in &late_tasks(heap, table, &run.state)? {
-        write!(text, " {number}")?;
-    }
-    Ok(())
+    tell_numbers(text, &late_tasks(heap, table, &run.state)?)
 }
 
 // The verdict, how many nodes and visits are in use, and the run that is late.

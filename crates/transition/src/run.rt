@@ -5,6 +5,7 @@ ghost use Rattle.transition.specs.Runs.{after, answered, told, walk};
 use crate::refusal::Refusal;
 use crate::system::System;
 
+// No ghost field says that the state fits: definitions build runs as records of a system and a state.
 #[derive(Drop)]
 pub struct Run<S: System> {
     system: S,

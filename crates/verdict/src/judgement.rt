@@ -11,8 +11,8 @@ pub struct Failure<S: System> {
     pub run: Run<S>,
 }
 
-// What exploring decides, where F is what is told of a late run.
-#[derive(Drop)]
+// What exploring decides, where F is what is told of a late run. An enum beside `Outcome`: only here is a run at hand.
+#[derive(Debug, Drop, PartialEq, Eq)]
 pub enum Verdict<F> {
     // no run is ever late
     Schedulable,

@@ -1,4 +1,5 @@
 // Why a verdict is as it is, and what it covers.
+use explorer::{MOST_NODES, MOST_VISITS};
 use std::fmt;
 use task_verdict::{TaskJudgement, TaskVerdict};
 
@@ -56,7 +57,7 @@ impl Grounds<'_> {
             "What is known: more than {lent} different states can be reached. No run was found to be"
         )?;
         writeln!(f, "late so far, which promises nothing.")?;
-        advise(f, "--visits", lent < 65535)
+        advise(f, "--visits", lent < MOST_VISITS)
     }
 
     fn nodes_full<W: fmt::Write>(&self, f: &mut fmt::Formatter<W>) -> fmt::Result {
@@ -70,7 +71,7 @@ impl Grounds<'_> {
             f,
             "No run was found to be late so far, which promises nothing."
         )?;
-        advise(f, "--nodes", lent < 4096)
+        advise(f, "--nodes", lent < MOST_NODES)
     }
 
     fn used<W: fmt::Write>(&self, f: &mut fmt::Formatter<W>) -> fmt::Result {

@@ -11,6 +11,7 @@ impl fmt::Display for AnswerLine<'_> {
         let answer = match &self.0.verdict {
             TaskVerdict::Schedulable => "schedulable",
             TaskVerdict::Unschedulable(_) => "unschedulable",
+            // The numbers of `Outcome`, written out: a verdict on tasks holds no outcome to ask.
             TaskVerdict::TooLarge => "10",
             TaskVerdict::VisitsFull => "11",
             TaskVerdict::NodesFull => "12",

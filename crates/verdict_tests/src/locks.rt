@@ -8,6 +8,7 @@ use transition::System;
 use verdict::{Failure, Judgement, Verdict, is_ever_late, judge, run_after};
 
 fn judged(heap: Global, lock: &Lock) -> Result<Judgement<Failure<Lock>>, Fail> {
+    // Not START: exploring is to look at no visit that it did not write.
     let visit = Visit {
         parent: 9,
         event: 9,

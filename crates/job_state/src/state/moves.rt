@@ -29,6 +29,7 @@ impl State {
         ensures leaves { self.new ≡ released tasks.now number self.old }
         ensures others { (k : ℕ) → (k ≢ number) → job_numbered self.new.jobs k ≡ job_numbered self.old.jobs k }
     {
+        // `tasks` may be longer than a table.
         if number == 0 || number > tasks.len() || number > 8 {
             return Err(JobRefusal::NoTask);
         }

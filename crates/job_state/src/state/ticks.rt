@@ -67,6 +67,7 @@ fn wait_all(jobs: &mut [Job])
 }
 
 // Low tasks are dropped, and ready high jobs gain.
+// Not by `change_all`, whose function may be called with any job: `raise` asks that the job is within its budget.
 #[tactic(auto, using(crate::proofs::Loops::over_all))]
 fn raise_all(tasks: &[Task], jobs: &mut [Job])
     requires { any over_budget tasks.now jobs.old ≡ false }
@@ -85,23 +86,11 @@ fn raise(job: Job, task: &Task) -> Job
     ensures { result ≡ raised_job task.now job }
 {
     match job {
-        Job::Idle { wait } => {
-            if is_high(task) {
-                Job::Idle { wait }
-            } else {
-                Job::Dropped
-            }
-        }
-        Job::Ready { wait, left } => {
-            if is_high(task) {
-                Job::Ready {
-                    wait,
-                    left: left + task.budget_high.saturating_sub(task.budget_low),
-                }
-            } else {
-                Job::Dropped
-            }
-        }
+        Job::Idle { .. } | Job::Ready { .. } if !is_high(task) => Job::Dropped,
+        Job::Ready { wait, left } => Job::Ready {
+            wait,
+            left: left + task.budget_high.saturating_sub(task.budget_low),
+        },
         _ => job,
     }
 }

@@ -73,10 +73,7 @@ impl Job {
     pub fn is_used_up(self) -> bool
         ensures { result ≡ used_up self }
     {
-        match self {
-            Job::Ready { left, .. } => left == 0,
-            _ => false,
-        }
+        matches!(self, Job::Ready { left: 0, .. })
     }
 
     // Whether the job ends, once it has run: the tick is finishing, or its last budget is used up.

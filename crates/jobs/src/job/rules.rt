@@ -44,10 +44,7 @@ impl Job {
     pub fn is_due(self, kind: Kind) -> bool
         ensures { result ≡ due_job kind self }
     {
-        match (kind, self) {
-            (Kind::Periodic, Job::Idle { wait }) => wait == 0,
-            _ => false,
-        }
+        kind == Kind::Periodic && matches!(self, Job::Idle { wait: 0 })
     }
 
     // Whether the task can have this job in that mode.

@@ -20,9 +20,10 @@ impl<P: Policy> Policy for Shortened<P> {
     fn pick(&self, tasks: &[Task], state: &State) -> Option<usize> {
         match state.mode {
             Mode::Low => {
+                // An array, as a table has room for eight tasks, and picking takes no memory.
                 let mut shown = [Task::UNUSED; 8];
                 shorten_all(&self.deadlines.figures, tasks, &mut shown);
-                self.below.pick(&shown[0..tasks.len().min(8)], state)
+                self.below.pick(&shown[..tasks.len().min(8)], state)
             }
             Mode::High => self.below.pick(tasks, state),
         }
@@ -45,6 +46,7 @@ fn shorten_all(figures: &[u8], tasks: &[Task], shown: &mut [Task])
     requires room { length shown.old ≡ 8 }
     ensures { take (min (length tasks.now) 8) shown.new ≡ shorts figures.now tasks.now }
 {
+    // By number: after a zip with `iter_mut` nothing is known of what was written.
     for (i, (task, figure)) in tasks.iter().zip(figures).enumerate() {
         shown[i] = shorten(task, *figure);
     }

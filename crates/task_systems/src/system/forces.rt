@@ -58,7 +58,7 @@ fn force_by(due: Option<usize>, picked: Option<usize>, mode: Mode, target: usize
     ensures { result ≡ forced_by due picked mode target }
 {
     match (due, picked, mode) {
-        // At most 8, so that the cast keeps it: there is no From that makes a u8 of a usize.
+        // At most 8, so that the cast keeps it; `try_from` would leave an error that never comes.
         (Some(number), _, _) => number as u8,
         (None, Some(number), Mode::Low) if number != target => FINISHING_TICK,
         _ => TICK,
