@@ -39,6 +39,7 @@ impl System for Lock {
             && state.boat.unwrap_or(0) <= self.patience()
     }
 
+    // The tests of every system come first, here and in `forced_event`: a function for the two would be as long as they are.
     fn next(&self, state: &Chamber, event: u8) -> Result<Chamber, Refusal<LockRefusal>> {
         if !self.fits(state) {
             return Err(Refusal::NotFitting);

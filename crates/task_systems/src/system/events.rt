@@ -19,6 +19,7 @@ pub const TICK: u8 = 9;
 pub const FINISHING_TICK: u8 = 10;
 
 impl<R: Releases, P: Policy> TaskSystem<R, P> {
+    // The tests of every system come first, here and in `force`: a function for the two would be as long as they are.
     #[tactic(auto, unfolding(task_laws::specs::Systems::gives))]
     pub(super) fn give(&self, state: &State, event: u8) -> Result<State, Refusal<JobRefusal>>
         ensures { result ≡ gives (P.Policy.picks self.now.policy) (R.Releases.comes self.now.releases) (tasks_of self.now.table) event state.now }
