@@ -11,7 +11,7 @@ use task_table::task::Task;
 
 // The lowest number of a task whose job passes.
 #[tactic(auto, using(crate::proofs::Loops::lowest_end))]
-pub fn lowest_passing<F: Fn(&Task, Job) -> bool>(
+pub(crate) fn lowest_passing<F: Fn(&Task, Job) -> bool>(
     test: F,
     tasks: &[Task],
     jobs: &[Job],
@@ -29,7 +29,7 @@ pub fn lowest_passing<F: Fn(&Task, Job) -> bool>(
 }
 
 // Whether some task has a job that passes.
-pub fn any_passes<F: Fn(&Task, Job) -> bool>(test: F, tasks: &[Task], jobs: &[Job]) -> bool
+pub(crate) fn any_passes<F: Fn(&Task, Job) -> bool>(test: F, tasks: &[Task], jobs: &[Job]) -> bool
     requires { F.IsAlwaysCallable test }
     ensures { (passes : Task → Job → Bool) → Answers F.Fn test passes → result ≡ any passes tasks.now jobs.now }
 {
@@ -38,7 +38,7 @@ pub fn any_passes<F: Fn(&Task, Job) -> bool>(test: F, tasks: &[Task], jobs: &[Jo
 
 // Whether every task has a job that passes, and there are no other jobs.
 #[tactic(auto, using(crate::proofs::Loops::every_end))]
-pub fn every_passes<F: Fn(&Task, Job) -> bool>(test: F, tasks: &[Task], jobs: &[Job]) -> bool
+pub(crate) fn every_passes<F: Fn(&Task, Job) -> bool>(test: F, tasks: &[Task], jobs: &[Job]) -> bool
     requires { F.IsAlwaysCallable test }
     ensures { (passes : Task → Job → Bool) → Answers F.Fn test passes → result ≡ every passes tasks.now jobs.now }
 {
@@ -57,7 +57,7 @@ pub fn every_passes<F: Fn(&Task, Job) -> bool>(test: F, tasks: &[Task], jobs: &[
 
 // Changes each job that has a task.
 #[tactic(auto, using(crate::proofs::Loops::over_all))]
-pub fn change_all<F: Fn(&Task, Job) -> Job>(change: F, tasks: &[Task], jobs: &mut [Job])
+pub(crate) fn change_all<F: Fn(&Task, Job) -> Job>(change: F, tasks: &[Task], jobs: &mut [Job])
     requires { F.IsAlwaysCallable change }
     ensures { (changed : Task → Job → Job) → Answers F.Fn change changed → jobs.new ≡ over changed tasks.now jobs.old }
 {

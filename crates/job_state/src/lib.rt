@@ -1,7 +1,7 @@
 // States of all jobs, and what a release and a tick do to them.
 #![tactic(auto)]
 
-pub mod job_tests;
+mod job_tests;
 pub mod state;
 
 pub use state::State;

@@ -1,12 +1,12 @@
 // A layer that lets high tasks run first.
 ghost use Rattle.std.specs.Prelude.{◌≡◌};
 ghost use Rattle.task_table.specs.declared.mode.Mode.TheVariants.{Low};
+ghost use Rattle.job_state.specs.Lists.{any, over};
 ghost use Rattle.policies.specs.Layers.{high_ready, hidden, high_first};
 ghost use Rattle.policies.specs.Shows.{high_first_ready, high_first_blind};
 
 use crate::policy::Policy;
 use job_state::State;
-use job_state::job_tests::{any_passes, change_all};
 use jobs::Job;
 use jobs::figures::is_high;
 use task_table::mode::Mode;
@@ -37,10 +37,36 @@ fn show(tasks: &[Task], state: &State) -> State
     ensures jobs { result.jobs ≡ high_first tasks.now state.now.mode state.now.jobs }
 {
     let mut shown = *state;
-    if state.mode == Mode::Low && any_passes(is_high_ready, tasks, &state.jobs) {
-        change_all(hide, tasks, &mut shown.jobs);
+    if state.mode == Mode::Low && is_any_high_ready(tasks, &state.jobs) {
+        hide_all(tasks, &mut shown.jobs);
     }
     shown
+}
+
+// Whether some high task is ready.
+#[tactic(auto, using(crate::proofs::Lacking::any_end))]
+fn is_any_high_ready(tasks: &[Task], jobs: &[Job]) -> bool
+    ensures { result ≡ any high_ready tasks.now jobs.now }
+{
+    for (task, job) in tasks.iter().zip(jobs) {
+        if is_high_ready(task, *job) {
+            return true;
+        }
+    }
+    false
+}
+
+// Hides each job that has a task.
+#[tactic(auto, using(job_state::proofs::Loops::over_all))]
+fn hide_all(tasks: &[Task], jobs: &mut [Job])
+    ensures { jobs.new ≡ over hidden tasks.now jobs.old }
+{
+    // After `iter_mut().zip(tasks)` nothing is known of the jobs.
+    for (i, job) in jobs.iter_mut().enumerate() {
+        if let Some(task) = tasks.get(i) {
+            *job = hide(task, *job);
+        }
+    }
 }
 
 // Whether the task is high, and its job is ready.

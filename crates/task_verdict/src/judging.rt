@@ -49,7 +49,7 @@ fn judge_system<S: System<State = State> + Copy>(
         visits: visit_count,
     } = judge(heap, system, nodes, visits)?;
     Ok(Judgement {
-        verdict: verdict.map(|failure| LateRun::from(failure)),
+        verdict: verdict.retold(),
         nodes: node_count,
         visits: visit_count,
     })

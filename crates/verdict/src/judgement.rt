@@ -27,14 +27,13 @@ pub enum Verdict<F> {
 }
 
 impl<F> Verdict<F> {
-    // The same verdict, with what the function makes of the late run told of it.
-    pub fn map<G, M: FnOnce(F) -> G>(self, f: M) -> Verdict<G>
-        requires { M.IsAlwaysCallable f }
-        ensures { Maps (M.post f) self result }
+    // The same verdict, with the late run told as a G.
+    pub fn retold<G: From<F>>(self) -> Verdict<G>
+        ensures { Maps G.from_gives self result }
     {
         match self {
             Verdict::Schedulable => Verdict::Schedulable,
-            Verdict::Unschedulable(late) => Verdict::Unschedulable(f(late)),
+            Verdict::Unschedulable(late) => Verdict::Unschedulable(G::from(late)),
             Verdict::TooLarge => Verdict::TooLarge,
             Verdict::VisitsFull => Verdict::VisitsFull,
             Verdict::NodesFull => Verdict::NodesFull,

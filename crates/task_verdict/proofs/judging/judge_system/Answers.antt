@@ -14,9 +14,9 @@ returns g c =
     let s = c.args.system.now in
     let e = c.in_ok-verdict.ensures in
     let j = c.in_ok-verdict.field-0 in
-    let kept_of : c.map.result ≡ plain j.verdict = plain_mapped _ (λ f l made. search rules) j.verdict c.map.result c.map.ensures in
-    let was : (w : Verdict LateRun) → c.map.result ≡ w → j.verdict ≡ restored s w = λ w h. known s j.verdict w (λ f is. (e.shown_late f is).of_system) (sym kept_of ∙ h) in
-    let shows : outcome_of c.map.result ≡ outcome_of j.verdict = ap outcome_of kept_of ∙ same_outcome j.verdict in
+    let kept_of : c.retold.result ≡ plain j.verdict = plain_mapped _ (λ f l made. search rules) j.verdict c.retold.result c.retold.ensures in
+    let was : (w : Verdict LateRun) → c.retold.result ≡ w → j.verdict ≡ restored s w = λ w h. known s j.verdict w (λ f is. (e.shown_late f is).of_system) (sym kept_of ∙ h) in
+    let shows : outcome_of c.retold.result ≡ outcome_of j.verdict = ap outcome_of kept_of ∙ same_outcome j.verdict in
     record {
       told = record {
         never_late = λ h. states_never_late means s (e.never_late (was Schedulable h));
@@ -38,6 +38,6 @@ returns g c =
         every_visit_tells = e.every_visit_tells;
         antichain = e.antichain;
       };
-      too_large = λ large. let left = e.too_large large in (refused_whole j c.map.result kept_of left.0, left.1, left.2);
+      too_large = λ large. let left = e.too_large large in (refused_whole j c.retold.result kept_of left.0, left.1, left.2);
       no_memory = tt;
     }
