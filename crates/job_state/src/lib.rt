@@ -1,7 +1,8 @@
 // States of all jobs, and what a release and a tick do to them.
 #![tactic(auto)]
 
-mod job_tests;
+mod job_closures;
+pub mod job_tests;
 pub mod state;
 
 pub use state::State;

@@ -4,7 +4,7 @@ ghost use Rattle.job_state.specs.Lists.{job_numbered};
 ghost use Rattle.job_state.specs.States.{first as first_state};
 ghost use Rattle.job_state.specs.Releases.{release_answer, released};
 
-use crate::job_tests::change_all;
+use crate::job_closures::change_all;
 use crate::state::State;
 use jobs::{Job, JobRefusal, Kind};
 use task_table::mode::Mode;

@@ -4,7 +4,7 @@ ghost use Rattle.jobs.specs.Jobs.{due_job};
 ghost use Rattle.job_state.specs.Lists.{lowest};
 ghost use Rattle.job_state.specs.States.{fits, late, doomed, due};
 
-use crate::job_tests::{any_passes, every_passes, lowest_passing};
+use crate::job_closures::{any_passes, every_passes, lowest_passing};
 use crate::state::State;
 use jobs::Kind;
 use task_table::task::Task;

@@ -3,7 +3,7 @@ use Rattle.task_table.specs.declared.task.Task.{Task}
 use Rattle.jobs.specs.declared.job.Job.{Job}
 use Rattle.job_state.specs.Calls.{Answers}
 use Rattle.job_state.specs.Lists.{lowest}
-use Rattle.job_state.proofs.job_tests.lowest_passing.Given as goal
+use Rattle.job_state.proofs.job_closures.lowest_passing.Given as goal
 
 abbrev pub invariant-loop-i : goal.invariant-loop-i
 invariant-loop-i g l =
