@@ -8,7 +8,7 @@ use Rattle.canal_lock.specs.declared.lock.Lock.{Lock}
 use Rattle.canal_lock.specs.declared.lock.Chamber.{Chamber}
 use Rattle.canal_lock.specs.declared.refusal.LockRefusal.{LockRefusal}
 use Rattle.canal_lock.specs.Locks.{calm, fits, late, doomed, come, tick, gives, meaning}
-use Rattle.canal_lock.specs.Lawful.{by_boat, accepted, result_fits, late_doomed, first_fits, first_not_doomed}
+use Rattle.canal_lock.specs.Lawful.{accepted, result_fits, late_doomed, first_fits, first_not_doomed}
 
 module _ (l : Lock) (prompt : l.fill < l.patience) where
   -- a fitting state that is not doomed
@@ -20,7 +20,7 @@ module _ (l : Lock) (prompt : l.fill < l.patience) where
   come_spared x f = grind (arith, nat_tests)
 
   tick_spared : (x : Chamber) → fits l x ≡ true → doomed l x ≡ false → doomed l (tick l x) ≡ false
-  tick_spared = by_boat (λ x. fits l x ≡ true → doomed l x ≡ false → doomed l (tick l x) ≡ false) (λ t p f s. grind (arith, nat_tests)) (λ t w p f s. grind (arith, nat_tests))
+  tick_spared x f s = ⊎_elim (λ (b : x.boat ≡ true). grind (arith, nat_tests)) (λ (b : x.boat ≡ false). grind (arith, nat_tests)) (cases_Bool x.boat)
 
   safe_next : (e : ℕ) (x : Chamber) (r : Result Chamber (Refusal LockRefusal)) → gives l e x ≡ r → Safe x → Safe (after r x)
   safe_next e x (Err f) g s = s

@@ -16,8 +16,10 @@ pub struct Lock {
 pub struct Chamber {
     // how long until the chamber is ready
     pub turn: u8,
-    // how long the boat that waits has waited, where one does
-    pub boat: Option<u8>,
+    // whether a boat waits
+    pub boat: bool,
+    // how long it has waited
+    pub wait: u8,
     // how long until another boat may come
     pub pause: u8,
 }
@@ -26,7 +28,8 @@ impl Chamber {
     // Ready, and without boats.
     pub const CALM: Chamber = Chamber {
         turn: 0,
-        boat: None,
+        boat: false,
+        wait: 0,
         pause: 0,
     };
 }

@@ -1,7 +1,7 @@
 // The lock as a transition system: event 1 is a boat that comes, event 2 a tick.
 ghost use Rattle.std.specs.Prelude.{◌≡◌, ℕ, ◌<◌, true, false, List, nat_lt};
 ghost use Rattle.transition.specs.Runs.{walk};
-ghost use Rattle.canal_lock.specs.Locks.{arrival, calm, late, meaning, tick, wait};
+ghost use Rattle.canal_lock.specs.Locks.{arrival, calm, late, meaning, tick};
 ghost use Rattle.canal_lock.specs.Laws;
 
 use crate::lock::{Chamber, Lock};
@@ -36,7 +36,8 @@ impl System for Lock {
     fn fits(&self, state: &Chamber) -> bool {
         state.turn <= self.fill()
             && state.pause <= self.gap()
-            && state.boat.unwrap_or(0) <= self.patience()
+            && state.wait <= self.patience()
+            && (state.boat || state.wait == 0)
     }
 
     // The tests of every system come first, here and in `forced_event`: a function for the two would be as long as they are.
@@ -56,20 +57,22 @@ impl System for Lock {
 
     fn is_doomed(&self, state: &Chamber) -> bool {
         let patience = u16::from(self.patience());
+        let wait = u16::from(state.wait);
         let turn = u16::from(state.turn);
-        self.fits(state)
-            && state
-                .boat
-                .is_some_and(|wait| patience <= u16::from(wait) + turn)
+        self.fits(state) && state.boat && patience <= wait + turn
     }
 
     fn is_late(&self, state: &Chamber) -> bool {
-        let patience = self.patience();
-        self.fits(state) && state.boat.is_some_and(|wait| patience <= wait)
+        self.fits(state) && state.boat && self.patience() <= state.wait
     }
 
     fn simulates(&self, a: &Chamber, b: &Chamber) -> bool {
-        self.fits(a) && self.fits(b) && a.turn == b.turn && a.boat == b.boat && a.pause <= b.pause
+        self.fits(a)
+            && self.fits(b)
+            && a.turn == b.turn
+            && a.boat == b.boat
+            && a.wait == b.wait
+            && a.pause <= b.pause
     }
 
     fn forced_event(&self, state: &Chamber) -> Result<u8, Refusal<LockRefusal>> {
@@ -100,7 +103,7 @@ impl Lock {
     fn boat_comes(&self, state: &Chamber) -> Result<Chamber, Refusal<LockRefusal>>
         ensures { result ≡ arrival self.now state.now }
     {
-        if state.boat.is_some() {
+        if state.boat {
             return Err(Refusal::Own(LockRefusal::OneWaits));
         }
         if state.pause > 0 {
@@ -108,27 +111,30 @@ impl Lock {
         }
         Ok(Chamber {
             turn: state.turn,
-            boat: Some(0),
+            boat: true,
+            wait: 0,
             pause: self.gap(),
         })
     }
 
     // A tick goes by: a boat goes through where the chamber is ready, else all wait on.
     fn tick(&self, state: &Chamber) -> Chamber
-        requires { wait state.now < 255 }
+        requires { state.now.wait < 255 }
         ensures { result ≡ tick self.now state.now }
     {
         let pause = state.pause.saturating_sub(1);
-        if state.boat.is_some() && state.turn == 0 {
+        if state.boat && state.turn == 0 {
             Chamber {
                 turn: self.fill(),
-                boat: None,
+                boat: false,
+                wait: 0,
                 pause,
             }
         } else {
             Chamber {
                 turn: state.turn.saturating_sub(1),
-                boat: state.boat.map(|wait| wait + 1),
+                boat: state.boat,
+                wait: if state.boat { state.wait + 1 } else { 0 },
                 pause,
             }
         }

@@ -7,7 +7,7 @@ use Rattle.exploration.specs.Claims.{ShownLate}
 use Rattle.exploration.proofs.Runs.{onward_some, replay_append}
 use Rattle.canal_lock.specs.declared.lock.Lock.{Lock}
 use Rattle.canal_lock.specs.declared.lock.Chamber.{Chamber}
-use Rattle.canal_lock.specs.Locks.{wait, late, gives, forced, meaning}
+use Rattle.canal_lock.specs.Locks.{late, gives, forced, meaning}
 use Rattle.lock_check.specs.Findings.{ShownOverdue}
 use Rattle.lock_check.proofs.Overdue.{late_overdue}
 
@@ -18,13 +18,13 @@ module _ (l : Lock) where
   tick_given : (x y : Chamber) (e : ℕ) → forced l x ≡ Ok e → gives l e x ≡ Ok y → gives l 2 x ≡ Ok y
   tick_given x y e f g = subst (λ k. gives l k x ≡ Ok y) (forced_tick x e f) g
 
-  tick_waits : (x y : Chamber) (e : ℕ) → forced l x ≡ Ok e → gives l e x ≡ Ok y → wait y ≡ wait x + 1
+  tick_waits : (x y : Chamber) (e : ℕ) → forced l x ≡ Ok e → gives l e x ≡ Ok y → y.wait ≡ x.wait + 1
   tick_waits x y e f g = let two = forced_tick x e f in grind (arith, nat_tests)
 
   -- so many forced events are so many ticks, and the boat has waited that much longer after them
   record Ticked (n : ℕ) (x z : Chamber) : Type 0 where
     run : replay (meaning l) x (replicate n 2) ≡ Some z
-    waited : wait z ≡ wait x + n
+    waited : z.wait ≡ x.wait + n
 
   ticked : (n : ℕ) (x z : Chamber) → forced_on (meaning l) n x ≡ Some z → Ticked n x z
   ticked zero x z a = record { run = a; waited = let same : x ≡ z = cc in rw (← same) (omega arith) }
@@ -36,7 +36,7 @@ module _ (l : Lock) where
       let rest = ticked n g.0 z g.2 in
       record { run = rw one rest.run; waited = omega (arith, more, rest.waited) }
 
-  late_waits : (z : Chamber) → late l z ≡ true → wait z ≤ l.patience
+  late_waits : (z : Chamber) → late l z ≡ true → z.wait ≤ l.patience
   late_waits z h = grind (arith, nat_tests)
 
   pub shown_overdue : (vs : List Visit) → ShownLate (meaning l) vs → ShownOverdue l vs

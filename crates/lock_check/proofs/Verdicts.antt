@@ -42,10 +42,10 @@ either_way m n = ⊎_elim (λ (h : m < n). inl (omega arith)) (λ (h : n ≤ m).
 module _ (l : Lock) where
   -- fitting chambers that are alike simulate each other one way or the other
   unlike : (x y : Chamber) → fits l x ≡ true → fits l y ≡ true → simulates l x y ≡ false → simulates l y x ≡ false → Unlike x y
-  unlike x y fx fy a b t k =
+  unlike x y fx fy a b t k w =
       ⊎_elim
-      (λ (h : x.pause ≤ y.pause). both_ways (simulates l x y) a (together l x y (fx, fy) t k h))
-      (λ (h : y.pause ≤ x.pause). both_ways (simulates l y x) b (together l y x (fy, fx) (sym t) (sym k) h))
+      (λ (h : x.pause ≤ y.pause). both_ways (simulates l x y) a (together l x y (fx, fy) t k w h))
+      (λ (h : y.pause ≤ x.pause). both_ways (simulates l y x) b (together l y x (fy, fx) (sym t) (sym k) (sym w) h))
       (either_way x.pause y.pause)
 
   pub nodes_full : (P : ℕ) → NodesHonestlyFull (meaning l) P → MoreUnlikeThan l P

@@ -11,13 +11,13 @@ use Rattle.exploration.specs.Traces.{Traced}
 use Rattle.exploration.specs.Exploring.{explored}
 use Rattle.canal_lock.specs.declared.lock.Lock.{Lock}
 use Rattle.canal_lock.specs.declared.lock.Chamber.{Chamber}
-use Rattle.canal_lock.specs.Locks.{calm, waits, wait, meaning}
+use Rattle.canal_lock.specs.Locks.{calm, meaning}
 use Rattle.lock_check.specs.declared.finding.Verdict.{Verdict}
 use Rattle.lock_check.specs.declared.finding.Verdict.TheVariants as verdict
 
 -- a boat waits that has waited as long as it may
 abbrev pub Overdue : Lock → Chamber → Type 0
-Overdue l x = (waits x ≡ true) × (l.patience ≤ wait x)
+Overdue l x = (x.boat ≡ true) × (l.patience ≤ x.wait)
 
 -- the chamber at every moment from the calm one on while the events are made, a refused one leaving it
 abbrev pub moments : Lock → List ℕ → List Chamber
@@ -58,7 +58,7 @@ ComesAbout l x = (es : List ℕ) × LeadTo l es x
 
 -- the chambers differ in more than the time until another boat may come
 abbrev pub Unlike : Chamber → Chamber → Type 0
-Unlike x y = x.turn ≡ y.turn → x.boat ≢ y.boat
+Unlike x y = x.turn ≡ y.turn → x.boat ≡ y.boat → x.wait ≢ y.wait
 
 -- more than so many chambers come about, any two of them unlike
 abbrev pub MoreUnlikeThan : Lock → ℕ → Type 0

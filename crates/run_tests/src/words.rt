@@ -9,7 +9,7 @@ pub(crate) fn byte(words: &mut SplitWhitespace<'_>) -> Result<u8, Fail> {
     Ok(word.parse::<u8>()?)
 }
 
-// The next four words as a chamber, 1 for a boat and then its wait.
+// The next four words as a chamber, 1 for a boat.
 pub(crate) fn chamber(words: &mut SplitWhitespace<'_>) -> Result<Chamber, Fail> {
     let turn = byte(words)?;
     let boat = byte(words)? == 1;
@@ -17,7 +17,8 @@ pub(crate) fn chamber(words: &mut SplitWhitespace<'_>) -> Result<Chamber, Fail> 
     let pause = byte(words)?;
     Ok(Chamber {
         turn,
-        boat: boat.then_some(wait),
+        boat,
+        wait,
         pause,
     })
 }
