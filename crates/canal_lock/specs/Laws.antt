@@ -14,6 +14,7 @@ lawful l = record {
   unfit_refuses = lock.unfit_refuses l;
   late_refuses = lock.late_refuses l;
   lacking_refused = lock.lacking_refused l;
+  refusal_numbered = lock.refusal_numbered l;
   simulates_fits = lock.simulates_fits l;
   simulates_itself = lock.simulates_itself l;
   simulates_through = lock.simulates_through l;

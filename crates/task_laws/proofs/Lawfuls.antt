@@ -13,6 +13,7 @@ use Rattle.job_state.specs.States.{first_jobs, first, fits, late, doomed}
 use Rattle.policies.specs.Picks.{Pick}
 use Rattle.policies.specs.Chosen.{nth_within}
 use Rattle.transition.specs.declared.refusal.Refusal as refusal
+use Rattle.transition.specs.Refusals.{number_positive}
 use Rattle.transition.specs.Laws.{Laws}
 use Rattle.task_laws.specs.Systems.{late_in, doomed_in, simulates, picked, gives, forced_by, forced, meaning}
 use Rattle.task_laws.specs.Claims.{Lawful, Table}
@@ -125,6 +126,7 @@ module _ (pick : Pick) (kind : Kind) (tasks : List Task) (T : Table tasks) (L : 
     unfit_refuses = unfit pick kind tasks T;
     late_refuses = stuck pick kind tasks T;
     lacking_refused = lacking pick kind tasks T;
+    refusal_numbered = λ own p c x r e. number_positive own p r;
     simulates_fits = both_fit;
     simulates_itself = λ x e. simulated kind tasks x x (fitted kind tasks T x e);
     simulates_through = λ x y z p q. simulated kind tasks x z (joined kind tasks x y z (follows kind tasks T x y p) (follows kind tasks T y z q));

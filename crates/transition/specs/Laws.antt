@@ -1,6 +1,8 @@
 -- The laws that every system keeps.
 use Rattle.std.specs.Prelude.{◌≡◌, ℕ, ◌<◌, ◌≤◌, true, false, ◌⊎◌, Ok, Err}
+use Rattle.transition.specs.declared.refusal.Refusal.{Refusal}
 use Rattle.transition.specs.declared.refusal.Refusal.TheVariants.{Late, Lacking, NotDoomed, NotFitting}
+use Rattle.transition.specs.Refusals.{number}
 use Rattle.transition.specs.Meanings.{Meaning}
 
 pub record Laws {X R : Type 0} (M : Meaning X R) : Type 0 where
@@ -12,6 +14,8 @@ pub record Laws {X R : Type 0} (M : Meaning X R) : Type 0 where
   pub unfit_refuses : (e : ℕ) (x : X) → M.fits x ≡ false → M.gives e x ≡ Err NotFitting
   pub late_refuses : (e : ℕ) (x : X) → M.late x ≡ true → M.gives e x ≡ Err Late
   pub lacking_refused : (e : ℕ) (x : X) → M.fits x ≡ true → M.late x ≡ false → (e ≡ 0) ⊎ (M.count < e) → M.gives e x ≡ Err Lacking
+  -- what refuses an event is not told by 0, however the reasons of the system's own are numbered, if none of them by 0
+  pub refusal_numbered : (own : R → ℕ) → ((reason : R) → 0 < own reason) → (e : ℕ) (x : X) (r : Refusal R) → M.gives e x ≡ Err r → 0 < number own r
   pub simulates_fits : (x y : X) → M.simulates x y ≡ true → (M.fits x ≡ true) × (M.fits y ≡ true)
   pub simulates_itself : (x : X) → M.fits x ≡ true → M.simulates x x ≡ true
   pub simulates_through : (x y z : X) → M.simulates x y ≡ true → M.simulates y z ≡ true → M.simulates x z ≡ true
