@@ -1,10 +1,8 @@
 -- The words in which a lock is told of.
-use Rattle.std.specs.Prelude.{ℕ, cond, List, ◌++◌, Some, None, Ok, Err, Option, Result, codes, decimal, ◌==◌}
+use Rattle.std.specs.Prelude.{ℕ, cond, List, ◌++◌, Ok, Err, Result, codes, decimal, ◌==◌}
 use Rattle.transition.specs.declared.refusal.Refusal.{Refusal}
 use Rattle.transition.specs.Refusals.{number}
 use Rattle.canal_lock.specs.declared.lock.Chamber.{Chamber}
-use Rattle.canal_lock.specs.declared.refusal.LockRefusal.{LockRefusal}
-use Rattle.canal_lock.specs.Refusals.{number as lock_number}
 use Rattle.exploration.specs.declared.outcome.Outcome.{Outcome}
 use Rattle.exploration.specs.declared.outcome.Outcome.TheVariants as outcome
 use Rattle.lock_check.specs.declared.finding.Verdict.{Verdict}
@@ -15,18 +13,17 @@ abbrev pub event : ℕ → List ℕ
 event e = cond (e == 1) (codes "a boat comes") (cond (e == 2) (codes "a tick passes") (codes "no event of the lock"))
 
 -- what a run answers an event
-abbrev pub answer : Result (Unit {0}) (Refusal LockRefusal) → List ℕ
-answer (Ok u) = codes "accepted"
-answer (Err r) = codes "refusal " ++ decimal (number lock_number r)
+abbrev pub answer : {R : Type 0} → (R → ℕ) → Result (Unit {0}) (Refusal R) → List ℕ
+answer own (Ok u) = codes "accepted"
+answer own (Err r) = codes "refusal " ++ decimal (number own r)
 
 -- how long a boat has waited, where one waits
-abbrev pub waiting : Option ℕ → List ℕ
-waiting None = codes "no boat waits"
-waiting (Some w) = codes "a boat has waited " ++ decimal w
+abbrev pub waiting : Chamber → List ℕ
+waiting x = cond x.boat (codes "a boat has waited " ++ decimal x.wait) (codes "no boat waits")
 
 -- the chamber at one moment
 abbrev pub moment : Chamber → List ℕ
-moment x = codes "ready in " ++ (decimal x.turn ++ (codes ", " ++ (waiting x.boat ++ (codes ", next boat in " ++ decimal x.pause))))
+moment x = codes "ready in " ++ (decimal x.turn ++ (codes ", " ++ (waiting x ++ (codes ", next boat in " ++ decimal x.pause))))
 
 -- the verdict
 abbrev pub found : Verdict → List ℕ

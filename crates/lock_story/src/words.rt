@@ -2,7 +2,7 @@
 ghost use Rattle.std.specs.Prelude.{◌≡◌, Some};
 ghost use Rattle.lock_story.specs.Words.{event, answer, moment, found, ended};
 
-use canal_lock::{COMES, Chamber, LockRefusal, TICK};
+use canal_lock::{COMES, Chamber, TICK};
 use explorer::Outcome;
 use lock_check::Verdict;
 use numbered_refusals::Numbered;
@@ -35,15 +35,15 @@ impl fmt::Display for Event {
     }
 }
 
-// What a run answers an event.
+// What a run answers an event, whatever the reasons to refuse it.
 #[derive(Clone, Copy)]
-pub struct Answer(pub Result<(), Refusal<LockRefusal>>);
+pub struct Answer<R>(pub Result<(), Refusal<R>>);
 
-impl fmt::Display for Answer {
-    ghost output = { λ x. Some (answer x.0) };
+impl<R: Numbered> fmt::Display for Answer<R> {
+    ghost output = { λ x. Some (answer R.number x.0) };
 
     fn fmt<W: fmt::Write>(&self, f: &mut fmt::Formatter<W>) -> fmt::Result {
-        match self.0 {
+        match &self.0 {
             Ok(()) => write!(f, "accepted"),
             Err(refusal) => {
                 let number = refusal.number();
@@ -62,13 +62,15 @@ impl fmt::Display for Moment {
 
     fn fmt<W: fmt::Write>(&self, f: &mut fmt::Formatter<W>) -> fmt::Result {
         let turn = self.0.turn;
+        let wait = self.0.wait;
         let pause = self.0.pause;
-        match self.0.boat {
-            Some(wait) => write!(
+        if self.0.boat {
+            write!(
                 f,
                 "ready in {turn}, a boat has waited {wait}, next boat in {pause}"
-            ),
-            None => write!(f, "ready in {turn}, no boat waits, next boat in {pause}"),
+            )
+        } else {
+            write!(f, "ready in {turn}, no boat waits, next boat in {pause}")
         }
     }
 }

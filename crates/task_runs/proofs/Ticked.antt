@@ -3,16 +3,15 @@ use Rattle.std.proofs.Common.{◌≡◌, ℕ, ◌+◌, ◌<◌, Bool, true, fals
 use Rattle.std.proofs.lemmas.List.{at_drop_more}
 use Rattle.task_table.specs.declared.task.Task.{Task}
 use Rattle.job_state.specs.declared.state.State.{State}
-use Rattle.jobs.specs.declared.refusal.JobRefusal.{JobRefusal}
 use Rattle.policies.specs.Picks.{Pick}
 use Rattle.run_steps.specs.declared.step.Step.{Step}
 use Rattle.task_runs.specs.declared.ticking.Tick.{Tick}
 use Rattle.task_runs.specs.Ticking.{is_tick, ticks}
 
-module _ (pick : Pick) (ts : List Task) (x : State) (ss : List (Step State JobRefusal)) (i : ℕ) (s : Step State JobRefusal) (is : s ≡ get_or ss i s) (h : i < length ss) (qs all : List Tick) (old : qs ++ ticks pick ts x (drop i ss) ≡ all) where
+module _ {R : Type 0} (pick : Pick) (ts : List Task) (x : State) (ss : List (Step State R)) (i : ℕ) (s : Step State R) (is : s ≡ get_or ss i s) (h : i < length ss) (qs all : List Tick) (old : qs ++ ticks pick ts x (drop i ss) ≡ all) where
   -- the ticks from this step on
   from_here : ticks pick ts x (s ∷ drop (i + 1) ss) ≡ ticks pick ts x (drop i ss)
-  from_here = ap (λ (t : Step State JobRefusal). ticks pick ts x (t ∷ drop (i + 1) ss)) is ∙ sym (at_drop_more (ticks pick ts x) ss i s h)
+  from_here = ap (λ (t : Step State R). ticks pick ts x (t ∷ drop (i + 1) ss)) is ∙ sym (at_drop_more (ticks pick ts x) ss i s h)
 
   pub tick_more : (us : List Tick) (o : Option ℕ) → true ≡ is_tick s → o ≡ pick ts x.mode x.jobs → us ≡ qs ++ record { before = x; ran = o } ∷ [] → us ++ ticks pick ts s.state (drop (i + 1) ss) ≡ all
   tick_more us o b e u =

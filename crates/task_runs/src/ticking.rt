@@ -2,9 +2,9 @@
 ghost use Rattle.std.specs.Prelude.{◌≡◌, ◌&&◌, ◌||◌, IfOk};
 ghost use Rattle.task_runs.specs.Ticking.{is_tick, ticks};
 
-use crate::recording::TaskStep;
 use job_state::State;
 use policies::Policy;
+use run_steps::Step;
 use std::alloc::{AllocError, Global};
 use task_systems::{FINISHING_TICK, TICK};
 use task_table::task::Task;
@@ -16,13 +16,13 @@ pub struct Tick {
     pub ran: Option<usize>,
 }
 
-// The accepted ticks of a run in their order, from its first state and its steps.
-pub fn list_ticks<P: Policy>(
+// The accepted ticks of a run in their order, from its first state and its steps, whatever the reasons to refuse events.
+pub fn list_ticks<P: Policy, R>(
     heap: Global,
     policy: &P,
     tasks: &[Task],
     first: State,
-    steps: &[TaskStep],
+    steps: &[Step<State, R>],
 ) -> Result<Vec<Tick>, AllocError>
     ensures { IfOk result (λ v. v.items ≡ ticks (P.Policy.picks policy.now) tasks.now first steps.now) }
 {
@@ -39,7 +39,7 @@ pub fn list_ticks<P: Policy>(
 }
 
 // Whether time went on at the step: an accepted tick, finishing or not.
-pub fn is_tick(step: &TaskStep) -> bool
+pub fn is_tick<R>(step: &Step<State, R>) -> bool
     ensures { result ≡ is_tick step.now }
 {
     step.answer.is_ok() && matches!(step.event, TICK | FINISHING_TICK)
