@@ -80,13 +80,13 @@ filled_rejoined [] ps e = cc
 filled_rejoined (b ∷ p) [] e = refl
 filled_rejoined (b ∷ p) (q ∷ ps) e = refl
 
-listed_writes : (bs ns : List ℕ) → listed bs ≡ Some ns → Written bs ns
+pub listed_writes : (bs ns : List ℕ) → listed bs ≡ Some ns → Written bs ns
 listed_writes [] ns e = record { numerals = []; joined = refl; values = let same : [] ≡ ns = cc in ap (map Some) same }
 listed_writes (b ∷ bs) ns e =
     let read = with_pieces_writes [] ns (commas (b ∷ bs)) e in
     record { numerals = commas (b ∷ bs); joined = sym (join_with_byte-slice_split 44 (b ∷ bs)); values = read.values ∙ ap (map Some) (sym read.after) }
 
-writes_listed : (bs ns : List ℕ) → Written bs ns → listed bs ≡ Some ns
+pub writes_listed : (bs ns : List ℕ) → Written bs ns → listed bs ≡ Some ns
 writes_listed bs ns w = ap listed w.joined ∙ go w.numerals w.values
   where
     go : (ps : List (List ℕ)) → map byte_value ps ≡ map Some ns → listed (join_with_byte 44 ps) ≡ Some ns
@@ -99,7 +99,7 @@ writes_listed bs ns w = ap listed w.joined ∙ go w.numerals w.values
             let first : byte_value p ≡ Some m = cc in
             listed_some (join_with_byte 44 (p ∷ ps)) (filled_rejoined p ps (digits_of p m first).some) ∙ ap (with_pieces []) (commas_rejoined p ps (m ∷ ms) f) ∙ writes_with_pieces [] (m ∷ ms) (p ∷ ps) f
 
-unlisted_writes : (bs : List ℕ) → listed bs ≡ None → (ns : List ℕ) → Written bs ns → ⊥
+pub unlisted_writes : (bs : List ℕ) → listed bs ≡ None → (ns : List ℕ) → Written bs ns → ⊥
 unlisted_writes bs e ns w = let some = writes_listed bs ns w in cc
 
 -- what the answer reads, it writes

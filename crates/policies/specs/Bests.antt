@@ -1,7 +1,8 @@
 -- The loop that finds the best, and that it looks at ready jobs alone.
-use Rattle.std.specs.Prelude.{◌≡◌, ℕ, ◌+◌, ◌⊎◌, List, [], ◌∷◌, map, length, ℤ, Some, None, Option, int_le, refl}
+use Rattle.std.specs.Prelude.{◌≡◌, ℕ, ◌+◌, ◌-◌, ◌<◌, ◌≤◌, ◌⊎◌, List, [], ◌∷◌, map, length, drop, ℤ, Some, None, Option, slice_index_or, int_le, refl}
 use Rattle.std.specs.Option.{option_map, unwrap_or}
-use Rattle.std.proofs.Common.{sym, ap, ◌∙◌, inl, inr, arith}
+use Rattle.std.proofs.Common.{sym, ap, subst, ◌∙◌, inl, inr, arith}
+use Rattle.std.proofs.lemmas.List.{drop_more, drop_all}
 use Rattle.std.proofs.lemmas.Int.{ints}
 use Rattle.std.proofs.lemmas.Bool.{cond_both}
 use Rattle.task_table.specs.declared.task.Task.{Task}
@@ -17,6 +18,24 @@ best_end f k [] xs h = refl
 best_end f k (t ∷ ts) [] h = refl
 best_end f k (t ∷ ts) (x ∷ xs) (inl h) = absurd (omega arith)
 best_end f k (t ∷ ts) (x ∷ xs) (inr h) = absurd (omega arith)
+
+-- the same from the last task down
+best_none : (f : Figured) (k : ℕ) (ts : List Task) → best f k ts [] ≡ None
+best_none f k [] = refl
+best_none f k (t ∷ ts) = refl
+
+pub best_start : (f : Figured) (ts : List Task) (xs : List Job) (n : ℕ) → (length ts ≤ n) ⊎ (length xs ≤ n) → None ≡ best f n (drop n ts) (drop n xs)
+best_start f ts xs n (inl h) = rw (drop_all n ts h)
+best_start f ts xs n (inr h) = rw (drop_all n xs h) (sym (best_none f n (drop n ts)))
+
+best_more : (f : Figured) (ts : List Task) (xs : List Job) (j : ℕ) (d : Task) (e : Job) → j < length ts → j < length xs → best f j (drop j ts) (drop j xs) ≡ offered (j + 1) (figure_of f (j + 1) (slice_index_or ts j d) (slice_index_or xs j e)) (best f (j + 1) (drop (j + 1) ts) (drop (j + 1) xs))
+best_more f ts xs j d e h k = rw (drop_more ts j d h, drop_more xs j e k)
+
+pub best_down : (f : Figured) (ts : List Task) (xs : List Job) (i : ℕ) (d : Task) (e : Job) (o o' : Option Best) (z : Option ℤ) → 0 < i → i ≤ length ts → i ≤ length xs → o ≡ best f i (drop i ts) (drop i xs) → z ≡ figure_of f ((i - 1) + 1) (slice_index_or ts (i - 1) d) (slice_index_or xs (i - 1) e) → o' ≡ offered ((i - 1) + 1) z o → o' ≡ best f (i - 1) (drop (i - 1) ts) (drop (i - 1) xs)
+best_down f ts xs i d e o o' z some h k q a b =
+    let j : i ≡ (i - 1) + 1 = omega arith in
+    let rest : o ≡ best f ((i - 1) + 1) (drop ((i - 1) + 1) ts) (drop ((i - 1) + 1) xs) = subst (λ (n : ℕ). o ≡ best f n (drop n ts) (drop n xs)) j q in
+    b ∙ (ap (λ (y : Option ℤ). offered ((i - 1) + 1) y o) a ∙ (ap (offered ((i - 1) + 1) (figure_of f ((i - 1) + 1) (slice_index_or ts (i - 1) d) (slice_index_or xs (i - 1) e))) rest ∙ sym (best_more f ts xs (i - 1) d e (omega arith) (omega arith))))
 
 -- the best so far, unless one of those after it has less
 abbrev pub earlier : Option Best → Option Best → Option Best

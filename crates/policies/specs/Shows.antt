@@ -1,8 +1,8 @@
 -- What the layers show keeps the laws.
-use Rattle.std.specs.Prelude.{◌≡◌, ℕ, zero, suc, ◌+◌, ◌-◌, ◌<◌, ◌≤◌, min, Bool, true, false, cond, ◌⊎◌, List, [], ◌∷◌, ◌++◌, map, length, get_or, take, Some, None, Option, slice_index_or, refl}
-use Rattle.std.proofs.Common.{sym, ◌∙◌, inl, inr, arith}
+use Rattle.std.specs.Prelude.{◌≡◌, ℕ, zero, suc, ◌+◌, ◌-◌, ◌<◌, ◌≤◌, min, Bool, true, false, cond, ◌⊎◌, List, [], ◌∷◌, ◌++◌, map, length, get_or, take, drop, Some, None, Option, slice_index, slice_index_or, slice_set, refl}
+use Rattle.std.proofs.Common.{sym, ◌∙◌, inl, inr, append_assoc, arith}
 use Rattle.std.proofs.Math.Path.{ap}
-use Rattle.std.proofs.lemmas.List.{append-nil}
+use Rattle.std.proofs.lemmas.List.{drop_more, drop_all, take_more_set, append-nil}
 use Rattle.std.proofs.lemmas.Bool.{lt-ltb}
 use Rattle.task_table.specs.declared.mode.Mode.{Mode}
 use Rattle.task_table.specs.declared.mode.Mode.TheVariants.{Low, High}
@@ -12,7 +12,7 @@ use Rattle.jobs.specs.declared.job.Job.TheVariants.{Absent, Idle, Ready, Dropped
 use Rattle.jobs.specs.Tasks.{is_high}
 use Rattle.job_state.specs.Lists.{any, over}
 use Rattle.policies.specs.Picks.{seen, PicksReady}
-use Rattle.policies.specs.Layers.{high_ready, hidden, high_first, shorts, shortened}
+use Rattle.policies.specs.Layers.{high_ready, hidden, high_first, short, shorts, shortened}
 
 -- what the layer shows as ready is ready
 hidden_ready : (t : Task) (x : Job) (w l : ℕ) → hidden t x ≡ Ready w l → x ≡ Ready w l
@@ -93,6 +93,20 @@ unfolding high_first
 high_first_blind ts Low xs ys h = rw (high_blind ts xs ys h) (cond_blind (any high_ready ts ys) ts xs ys h)
 high_first_blind ts High xs ys h = h
 
+-- the three ways in which a state is shown
+module _ (ts : List Task) (xs : List Job) where
+  pub shown_in_high : (m : Mode) → m ≡ High → xs ≡ high_first ts m xs
+  unfolding high_first
+  shown_in_high m e = rw e
+
+  pub shown_as_it_is : false ≡ any high_ready ts xs → xs ≡ high_first ts Low xs
+  unfolding high_first
+  shown_as_it_is e = ap (λ (b : Bool). cond b (over hidden ts xs) xs) e
+
+  pub shown_hidden : true ≡ any high_ready ts xs → over hidden ts xs ≡ high_first ts Low xs
+  unfolding high_first
+  shown_hidden e = ap (λ (b : Bool). cond b (over hidden ts xs) xs) e
+
 -- no more tasks are shown than there are
 shorts_few : (fs : List ℕ) (ts : List Task) → length (shorts fs ts) ≤ length ts
 shorts_few [] ts = omega arith
@@ -107,6 +121,23 @@ shortened_few fs High ts = omega arith
 pub shortened_ready : (fs : List ℕ) (m : Mode) (ts : List Task) (xs : List Job) (o : Option ℕ) → PicksReady (shortened fs m ts) xs o → PicksReady ts xs o
 shortened_ready fs m ts xs None h = tt
 shortened_ready fs m ts xs (Some n) h = let few = shortened_few fs m ts in let r = h.row in record { from_1 = h.from_1; row = omega arith; wait = h.wait; left = h.left; ready = h.ready }
+
+-- the loop that shortens
+pub shorts_more : (fs : List ℕ) (ts : List Task) (ys : List Task) (i : ℕ) (d : Task) (y : Task) → i < length fs → i < length ts → i < length ys → y ≡ short (slice_index_or ts i d) (slice_index fs i) → take i ys ++ shorts (drop i fs) (drop i ts) ≡ shorts fs ts → take (i + 1) (slice_set ys i y) ++ shorts (drop (i + 1) fs) (drop (i + 1) ts) ≡ shorts fs ts
+shorts_more fs ts ys i d y g h k new old =
+    let p : take (i + 1) (slice_set ys i y) ≡ take i ys ++ (y ∷ []) = take_more_set ys i y k in
+    let o : take i ys ++ (short (slice_index_or ts i d) (slice_index fs i) ∷ shorts (drop (i + 1) fs) (drop (i + 1) ts)) ≡ shorts fs ts = rw (drop_more ts i d h, drop_more fs i 0 g) at old in
+    rw p (append_assoc (take i ys) (y ∷ []) (shorts (drop (i + 1) fs) (drop (i + 1) ts)) ∙ (ap (λ (v : Task). take i ys ++ (v ∷ shorts (drop (i + 1) fs) (drop (i + 1) ts))) new ∙ o))
+
+shorts_none : (fs : List ℕ) → shorts fs [] ≡ []
+shorts_none [] = refl
+shorts_none (f ∷ fs) = refl
+
+pub shorts_all : (fs : List ℕ) (ts ys : List Task) (i : ℕ) → (length fs ≤ i) ⊎ (length ts ≤ i) → take i ys ++ shorts (drop i fs) (drop i ts) ≡ shorts fs ts → take i ys ≡ shorts fs ts
+shorts_all fs ts ys i (inl h) old = sym (append-nil (take i ys)) ∙ (rw (drop_all i fs h) at old)
+shorts_all fs ts ys i (inr h) old =
+    let e : shorts (drop i fs) (drop i ts) ≡ [] = rw (drop_all i ts h) (shorts_none (drop i fs)) in
+    sym (append-nil (take i ys)) ∙ (rw e at old)
 
 -- where no figure or no task is left, those that stand in front are all that are shown
 pub shorts_end : (n k : ℕ) (ys : List Task) (fs gs : List ℕ) (ts us : List Task) → (length ts ≡ 0) ⊎ (length fs ≡ 0) → n + min (length ts) (length fs) ≡ k → take n ys ++ shorts fs ts ≡ shorts gs us → take k ys ≡ shorts gs us

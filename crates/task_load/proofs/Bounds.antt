@@ -49,7 +49,7 @@ demand_within High t r = high t.criticality
     high HighTask = omega (arith, r.in_time, r.one_at_a_time)
 
 -- one right task more
-small_with : (i : ℕ) (m : Mode) (f : Fraction) (t : Task) → Small i f.numerator f.denominator → Right t → Small (i + 1) (with_task m f t).numerator (with_task m f t).denominator
+pub small_with : (i : ℕ) (m : Mode) (f : Fraction) (t : Task) → Small i f.numerator f.denominator → Right t → Small (i + 1) (with_task m f t).numerator (with_task m f t).denominator
 small_with i m f t s r =
     small_more i f.numerator f.denominator (demand m t) t.period s (demand_within m t r) (omega (arith, r.runs, r.budgets, r.in_time, r.one_at_a_time)) r.short_period
 
