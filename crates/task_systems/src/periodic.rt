@@ -1,0 +1,2 @@
+// Periodic tasks as a system.
+pub use crate::system::Periodic;

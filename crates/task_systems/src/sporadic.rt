@@ -1,0 +1,2 @@
+// Sporadic tasks as a system.
+pub use crate::system::Sporadic;
