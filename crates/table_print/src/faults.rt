@@ -55,8 +55,10 @@ impl fmt::Display for Told<'_> {
             }
             Slip::Refused(refusal) => {
                 write!(f, "{refusal}: found")?;
-                for word in words_found(self.bytes, line) {
-                    write!(f, " {}", Plain(word))?;
+                let mut words = words_found(self.bytes, line);
+                // Six places, whatever the line has: a word that is not there is empty.
+                for _ in 0..6 {
+                    write!(f, " {}", Plain(words.next().unwrap_or(&[])))?;
                 }
                 write!(f, ", {}", rule(refusal))
             }
