@@ -3,7 +3,7 @@
 #![tactic(auto)]
 
 ghost use Rattle.std.specs.Prelude.{◌≡◌, length, MatchResult};
-ghost use Rattle.task_table.specs.Tables.{tasks_of};
+ghost use Rattle.task_table.specs.Tables.{drafted, tasks_of};
 
 use numbered_refusals::told;
 use policies::EarliestDeadline;
@@ -39,12 +39,19 @@ const PLOTTER: Task = Task {
 const EARLIEST: EarliestDeadline = Least { by: Deadline };
 
 // Both tasks are right, so neither is refused.
-fn pair() -> Result<TaskTable, DraftRefusal>
-    ensures { MatchResult result (λ t. length (tasks_of t) ≡ 2) (λ _. ⊥) }
+fn pair_draft() -> Result<Draft, DraftRefusal>
+    ensures { MatchResult result (λ d. length (drafted d) ≡ 2) (λ _. ⊥) }
 {
     let mut draft = Draft::new();
     draft.add(RUDDER)?;
     draft.add(PLOTTER)?;
+    Ok(draft)
+}
+
+fn pair() -> Result<TaskTable, DraftRefusal>
+    ensures { MatchResult result (λ t. length (tasks_of t) ≡ 2) (λ _. ⊥) }
+{
+    let draft = pair_draft()?;
     let table = draft.seal();
     Ok(table)
 }
@@ -53,7 +60,8 @@ fn pair() -> Result<TaskTable, DraftRefusal>
 fn pair_system() -> Result<Sporadic<EarliestDeadline>, DraftRefusal>
     ensures { MatchResult result (λ s. length (tasks_of s.table) ≡ 2) (λ _. ⊥) }
 {
-    Ok(Sporadic::new(pair()?, EARLIEST))
+    let draft = pair_draft()?;
+    Ok(Sporadic::new(draft.seal(), EARLIEST))
 }
 
 fn tell_first_tick(rt: &HostRuntime) -> io::Result<()> {
