@@ -12,6 +12,7 @@ pub struct Lock {
     ghost bounded: { patience ≤ 255 },
 }
 
+// A flag and a wait, and no Option: anyone may build any chamber, also one with a wait and no boat, which fits no lock.
 #[derive(Clone, Copy, Debug, PartialEq, Eq)]
 pub struct Chamber {
     // how long until the chamber is ready
