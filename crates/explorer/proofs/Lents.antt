@@ -6,7 +6,7 @@ use Rattle.explorer.specs.declared.memory.Memory.{Memory}
 use Rattle.explorer.specs.Memories.{Extends}
 
 -- lists that agree from one index on agree from a later one on
-drop_later : (i j : ℕ) (xs ys : List Visit) → i ≤ j → drop i xs ≡ drop i ys → drop j xs ≡ drop j ys
+pub drop_later : (i j : ℕ) (xs ys : List Visit) → i ≤ j → drop i xs ≡ drop i ys → drop j xs ≡ drop j ys
 drop_later i j xs ys h e =
     let at : (zs : List Visit) → drop j zs ≡ drop (j - i) (drop i zs) = λ zs. let sum : i + (j - i) ≡ j = omega arith in ap (λ m. drop m zs) (sym sum) ∙ sym (drop-drop (j - i) i zs) in
     at xs ∙ ap (drop (j - i)) e ∙ sym (at ys)

@@ -3,24 +3,26 @@ use crate::words::reason;
 use arrayvec::ArrayString;
 use job_state::State;
 use numbered_refusals::Numbered;
+use run_steps::Step;
 use run_words::JobWord;
 use std::fmt;
 use std::fmt::Write;
-use task_runs::{FINISHING_TICK, TICK, TaskStep, Tick, is_tick};
+use task_runs::{FINISHING_TICK, TICK, Tick, is_tick};
 use task_table::mode::Mode;
 use task_table::task::Task;
 
-// The steps of a run from its first state on, with its ticks; those from `forced_from` on are forced events.
+// The steps of a run from its first state on, with its ticks; those from `forced_from` on are forced events. Events may be
+// refused for any reasons that have numbers.
 #[derive(Drop)]
-pub struct Listing<'a> {
+pub struct Listing<'a, R> {
     pub tasks: &'a [Task],
     pub first: State,
-    pub steps: &'a [TaskStep],
+    pub steps: &'a [Step<State, R>],
     pub ticks: &'a [Tick],
     pub forced_from: usize,
 }
 
-impl fmt::Display for Listing<'_> {
+impl<R: Numbered> fmt::Display for Listing<'_, R> {
     fn fmt<W: fmt::Write>(&self, f: &mut fmt::Formatter<W>) -> fmt::Result {
         write_head(f, self.tasks.len())?;
         write_state(f, 0, self.tasks.len(), &self.first)?;
@@ -46,9 +48,9 @@ impl fmt::Display for Listing<'_> {
     }
 }
 
-impl Listing<'_> {
+impl<R> Listing<'_, R> {
     // The task that ran at the step, where it is a tick.
-    fn ran_at(&self, step: &TaskStep, clock: usize) -> Option<usize> {
+    fn ran_at(&self, step: &Step<State, R>, clock: usize) -> Option<usize> {
         if !is_tick(step) {
             return None;
         }
@@ -82,9 +84,9 @@ fn write_state<W: fmt::Write>(
     Ok(())
 }
 
-fn write_event<W: fmt::Write>(
+fn write_event<W: fmt::Write, R: Numbered>(
     f: &mut fmt::Formatter<W>,
-    step: &TaskStep,
+    step: &Step<State, R>,
     ran: Option<usize>,
     forced: bool,
 ) -> fmt::Result {
@@ -103,7 +105,7 @@ fn write_event<W: fmt::Write>(
         Ok(()) => write_ran(f, event, ran),
         Err(refusal) => {
             let number = refusal.number();
-            write!(f, ", refused with {number}: {}", reason(refusal))
+            write!(f, ", refused with {number}: {}", reason(number))
         }
     }
 }
